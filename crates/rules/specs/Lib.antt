@@ -5,3 +5,6 @@ pub mod Roads
 pub mod Speeds
 pub mod Irc
 pub mod Laws
+pub mod Tables
+pub mod Stricter
+pub mod Shortest

@@ -6,5 +6,8 @@ pub mod length;
 pub mod point;
 pub mod refusal;
 pub mod road;
+pub mod shortest;
 pub mod speeds;
+pub mod stricter;
+pub mod table;
 pub mod turn;
