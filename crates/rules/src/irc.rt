@@ -1,11 +1,13 @@
 // The road code of the Indian standard.
 ghost use mathlib.Core.Path.{_≡_};
 ghost use Prim.Native.Nat.{_≤_};
+ghost use Rattle.std.specs.Options.{Cases as BySome};
 ghost use Rattle.std.specs.Results.{Cases};
+ghost use Rattle.rules.specs.declared.irc.Clause.{Clause};
 ghost use Rattle.rules.specs.Irc.{Irc-refused, Overtaking-given, clause-number, curve-by, grade-within, irc-curve, irc-grade, gradient-limit, seen, sight-rule};
 ghost use Rattle.rules.specs.Laws.{Longer-still-passes};
 ghost use Rattle.rules.specs.Roads.{Named};
-ghost use Rattle.rules.specs.Speeds.{Within-table};
+ghost use Rattle.rules.specs.Speeds.{Within-table, asked as askedAt, design-speed};
 use crate::code::RoadCode;
 use crate::grade::Grade;
 use crate::length::Length;
@@ -17,6 +19,7 @@ use crate::speeds::Asked;
 use crate::speeds::asked_of;
 use crate::turn::Kind;
 use crate::turn::Turn;
+use std::fmt;
 
 // What the standard refuses a grade or a curve by.
 #[derive(Clone, Copy, Debug, PartialEq, Eq)]
@@ -40,6 +43,37 @@ impl Clause {
             Clause::IntermediateSight => 4,
             Clause::OvertakingSight => 5,
             Clause::ValleySight => 6,
+        }
+    }
+
+    // The clause that is told by a number; none by any other.
+    pub fn told_by(number: u8) -> Option<Clause>
+        ensures { λ r. ⌜ BySome r ((x : Clause) → clause-number x ≡ number → ⊥) (λ x. clause-number x ≡ number) ⌝ }
+    {
+        match number {
+            1 => Some(Clause::Gradient),
+            2 => Some(Clause::LeastLength),
+            3 => Some(Clause::StoppingSight),
+            4 => Some(Clause::IntermediateSight),
+            5 => Some(Clause::OvertakingSight),
+            6 => Some(Clause::ValleySight),
+            _ => None,
+        }
+    }
+}
+
+pub impl fmt::Display for Clause as ClauseDisplay {
+    fn fmt<W: fmt::Write>(&self, f: &mut fmt::Formatter<W>) -> fmt::Result {
+        match self {
+            Clause::Gradient => write!(f, "the grade is too steep"),
+            Clause::LeastLength => write!(f, "the curve is under the least length"),
+            Clause::StoppingSight => write!(f, "the summit is too short for stopping sight"),
+            Clause::IntermediateSight => write!(
+                f,
+                "the summit is too short for intermediate sight"
+            ),
+            Clause::OvertakingSight => write!(f, "the summit is too short for overtaking sight"),
+            Clause::ValleySight => write!(f, "the valley is too short for headlight sight"),
         }
     }
 }
@@ -172,6 +206,13 @@ impl Irc {
             }
         }
         Ok(Irc { road })
+    }
+
+    // What the standard asks at the road's design speed.
+    pub fn asked(&self) -> Asked
+        ensures { λ r. ⌜ r ≡ askedAt (design-speed (now (self .entry) .road)) ⌝ }
+    {
+        asked_of(self.road)
     }
 
     // A law for callers: a curve that passes at some length passes at every longer one.

@@ -124,7 +124,7 @@ fn sight_of(figure: u32) -> Result<Sight, Refusal>
 
 impl Road {
     // The road that the figures stand for, or a refusal where one of them is unknown.
-    pub fn named(figures: RoadFigures) -> Result<Road, Refusal>
+    pub(crate) fn named(figures: RoadFigures) -> Result<Road, Refusal>
         ensures { λ r. ⌜ Cases r (λ road. Named figures road) (λ e. (e ≡ UnknownRoadFigure) × (Known figures → ⊥)) ⌝ }
     {
         Ok(Road {

@@ -157,7 +157,7 @@ impl DesignSpeed {
 }
 
 // What the standard asks of a road at its design speed.
-pub fn asked_of(road: Road) -> Asked
+pub(crate) fn asked_of(road: Road) -> Asked
     ensures value { λ r. ⌜ r ≡ askedAt (design-speed road) ⌝ }
     ensures small { λ r. ⌜ Within-table r ⌝ }
 {

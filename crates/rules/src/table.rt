@@ -37,7 +37,7 @@ const NO_ROW: u8 = 255;
 
 impl Kind {
     // The figure that rows know the kind by.
-    pub fn number(self) -> u32
+    pub(crate) fn number(self) -> u32
         ensures { λ r. ⌜ r ≡ kind-number self ⌝ }
     {
         match self {

@@ -1,0 +1,128 @@
+// A call, as a line of a job names it.
+use crate::misread::Misread;
+use crate::words::figures;
+use rules::point::Point;
+use rules::road::RoadFigures;
+use rules::table::Row;
+
+// Which code judges: one alone, or the stricter of two in this order.
+#[derive(Clone, Copy)]
+pub enum Choice {
+    Irc,
+    Table,
+    IrcThenTable,
+    TableThenIrc,
+}
+
+// What a code is asked.
+#[derive(Clone, Copy)]
+pub enum Inquiry {
+    Grade {
+        from: Point,
+        to: Point,
+    },
+    Curve {
+        before: Point,
+        at: Point,
+        after: Point,
+        length: u32,
+    },
+    Shortest {
+        before: Point,
+        at: Point,
+        after: Point,
+    },
+}
+
+#[derive(Clone, Copy)]
+pub enum Call {
+    New,
+    Irc(RoadFigures),
+    Row(Row),
+    Table { bound: u32, clause: u32 },
+    Use(Choice),
+    Ask(Inquiry),
+}
+
+fn read_choice<'a>(names: &[&'a str]) -> Result<Choice, Misread<'a>> {
+    match names {
+        ["irc"] => Ok(Choice::Irc),
+        ["table"] => Ok(Choice::Table),
+        ["irc", "table"] => Ok(Choice::IrcThenTable),
+        ["table", "irc"] => Ok(Choice::TableThenIrc),
+        [other, ..] => Err(Misread::UnknownCode(other)),
+        [] => Err(Misread::Count {
+            wanted: 1,
+            given: 0,
+        }),
+    }
+}
+
+fn point(station: u32, level: u32) -> Point {
+    Point { station, level }
+}
+
+fn read_inquiry<'a>(name: &'a str, rest: &[&'a str]) -> Result<Inquiry, Misread<'a>> {
+    match name {
+        "grade" => {
+            let [s1, y1, s2, y2] = figures::<4>(rest)?;
+            Ok(Inquiry::Grade {
+                from: point(s1, y1),
+                to: point(s2, y2),
+            })
+        }
+        "curve" => {
+            let [s1, y1, s2, y2, s3, y3, length] = figures::<7>(rest)?;
+            Ok(Inquiry::Curve {
+                before: point(s1, y1),
+                at: point(s2, y2),
+                after: point(s3, y3),
+                length,
+            })
+        }
+        "shortest" => {
+            let [s1, y1, s2, y2, s3, y3] = figures::<6>(rest)?;
+            Ok(Inquiry::Shortest {
+                before: point(s1, y1),
+                at: point(s2, y2),
+                after: point(s3, y3),
+            })
+        }
+        _ => Err(Misread::UnknownCall(name)),
+    }
+}
+
+// The call that the words make: its name, then its figures.
+pub(crate) fn read_call<'a>(name: &'a str, rest: &[&'a str]) -> Result<Call, Misread<'a>> {
+    match name {
+        "new" => {
+            let [] = figures::<0>(rest)?;
+            Ok(Call::New)
+        }
+        "irc" => {
+            let [class, terrain, speed, gradient, sight] = figures::<5>(rest)?;
+            Ok(Call::Irc(RoadFigures {
+                class,
+                terrain,
+                speed,
+                gradient,
+                sight,
+            }))
+        }
+        "row" => {
+            let [kind, change, least, clause] = figures::<4>(rest)?;
+            Ok(Call::Row(Row {
+                kind,
+                change,
+                least,
+                clause,
+            }))
+        }
+        "table" => {
+            let [bound, clause] = figures::<2>(rest)?;
+            Ok(Call::Table { bound, clause })
+        }
+        "use" => Ok(Call::Use(read_choice(rest)?)),
+        _ => Ok(Call::Ask(read_inquiry(name, rest)?)),
+    }
+}

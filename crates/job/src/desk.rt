@@ -1,0 +1,263 @@
+// What a job has made so far, and the calls on it.
+ghost use mathlib.Core.Path.{_≡_};
+ghost use Rattle.std.specs.Of.Vec.{vec-items};
+ghost use Rattle.std.specs.Options.{Cases as BySome};
+ghost use Rattle.std.specs.Results.{Cases};
+ghost use Rattle.job.specs.Desk.{Answers, As-it-was, Asked-by, Chosen, Empty, Inquired, Irc-made, Made, Row-added, Table-made, There, told-of};
+ghost use Rattle.std.specs.declared.result.Result.the-variants.{Ok, Err};
+ghost use Rattle.job.specs.declared.misread.Missing.the-variants as missing;
+use crate::answer::Answer;
+use crate::call::Call;
+use crate::call::Choice;
+use crate::call::Inquiry;
+use crate::misread::Missing;
+use rules::code::RoadCode;
+use rules::grade::Grade;
+use rules::irc::Irc;
+use rules::irc::IrcCode;
+use rules::length::Length;
+use rules::refusal::Refusal;
+use rules::road::RoadFigures;
+use rules::shortest::shortest;
+use rules::stricter::Stricter;
+use rules::stricter::StricterCode;
+use rules::table::LengthTable;
+use rules::table::LengthTableCode;
+use rules::table::Row;
+use rules::turn::Turn;
+use std::alloc::AllocError;
+use std::alloc::Global;
+
+// A length table that was accepted, with rows of its own.
+#[derive(Drop)]
+pub struct KeptTable {
+    rows: Vec<Row>,
+    bound: u32,
+    clause: u8,
+}
+
+// The codes of a job, the rows since its last table, and which code judges.
+#[derive(Drop)]
+pub struct Desk {
+    irc: Option<Irc>,
+    rows: Vec<Row>,
+    table: Option<KeptTable>,
+    choice: Option<Choice>,
+}
+
+// What a code answers to an inquiry, or the first reason against the inquiry's figures.
+fn ask<C: RoadCode>(code: &C, by: Choice, inquiry: Inquiry) -> Result<Answer, Refusal>
+    ensures { λ r. ⌜ Answers (gradeVerdict (now (code .entry))) (curveVerdict (now (code .entry))) by inquiry r ⌝ }
+{
+    match inquiry {
+        Inquiry::Grade { from, to } => {
+            let grade = Grade::between(from, to)?;
+            let clause = code.grade(grade);
+            Ok(Answer::Verdict { clause, by })
+        }
+        Inquiry::Curve {
+            before,
+            at,
+            after,
+            length,
+        } => {
+            let turn = Turn::through(before, at, after)?;
+            let length = Length::new(length)?;
+            let clause = code.curve(turn, length);
+            Ok(Answer::Verdict { clause, by })
+        }
+        Inquiry::Shortest { before, at, after } => {
+            let turn = Turn::through(before, at, after)?;
+            match shortest(code, turn) {
+                Ok(length) => Ok(Answer::Shortest {
+                    metres: length.metres,
+                }),
+                Err(none) => Ok(Answer::NoLength {
+                    clause: none.clause,
+                }),
+            }
+        }
+    }
+}
+
+fn told(answer: Result<Answer, Refusal>) -> Answer
+    ensures { λ r. ⌜ r ≡ told-of answer ⌝ }
+{
+    match answer {
+        Ok(answer) => answer,
+        Err(refusal) => Answer::Refused(refusal),
+    }
+}
+
+impl KeptTable {
+    fn code(&self) -> LengthTable<'_>
+        ensures rows { λ r. ⌜ now (r .rows) ≡ vec-items (now (self .entry) .rows) ⌝ }
+        ensures bound { λ r. ⌜ r .bound ≡ now (self .entry) .bound ⌝ }
+        ensures clause { λ r. ⌜ r .clause ≡ now (self .entry) .clause ⌝ }
+    {
+        LengthTable {
+            rows: self.rows.as_slice(),
+            bound: self.bound,
+            clause: self.clause,
+        }
+    }
+}
+
+impl Desk {
+    // A desk with nothing on it.
+    pub fn new(heap: Global) -> Desk
+        ensures { λ r. ⌜ Empty r ⌝ }
+    {
+        Desk {
+            irc: None,
+            rows: Vec::new(heap),
+            table: None,
+            choice: None,
+        }
+    }
+
+    // The inquiry put to the code that the choice names.
+    fn ask_by(&self, choice: Choice, inquiry: Inquiry) -> Result<Answer, Missing>
+        ensures { λ r. ⌜ Asked-by (now (self .entry)) choice inquiry r ⌝ }
+    {
+        match choice {
+            Choice::Irc => {
+                let code = self.irc_made()?;
+                Ok(told(ask(&code, choice, inquiry)))
+            }
+            Choice::Table => {
+                let code = self.table_made()?;
+                Ok(told(ask(&code, choice, inquiry)))
+            }
+            Choice::IrcThenTable => {
+                let first = self.irc_made()?;
+                let second = self.table_made()?;
+                Ok(told(ask(&Stricter { first, second }, choice, inquiry)))
+            }
+            Choice::TableThenIrc => {
+                let first = self.table_made()?;
+                let second = self.irc_made()?;
+                Ok(told(ask(&Stricter { first, second }, choice, inquiry)))
+            }
+        }
+    }
+
+    fn irc_made(&self) -> Result<Irc, Missing>
+        ensures { λ r. ⌜ BySome (now (self .entry) .irc) (r ≡ Err missing.Irc) (λ c. r ≡ Ok c) ⌝ }
+    {
+        match self.irc {
+            Some(irc) => Ok(irc),
+            None => Err(Missing::Irc),
+        }
+    }
+
+    fn table_made(&self) -> Result<LengthTable<'_>, Missing>
+        ensures { λ r. ⌜ BySome (now (self .entry) .table) (r ≡ Err missing.Table) (λ t. Cases r (λ c. (now (c .rows) ≡ vec-items (t .rows)) × (c .bound ≡ t .bound) × (c .clause ≡ t .clause)) (λ _. ⊥)) ⌝ }
+    {
+        match &self.table {
+            Some(kept) => Ok(kept.code()),
+            None => Err(Missing::Table),
+        }
+    }
+
+    fn inquire(&self, inquiry: Inquiry) -> Answer
+        ensures { λ a. ⌜ Inquired (now (self .entry)) inquiry a ⌝ }
+    {
+        let Some(choice) = self.choice else {
+            return Answer::Missing(Missing::Code);
+        };
+        match self.ask_by(choice, inquiry) {
+            Ok(answer) => answer,
+            Err(missing) => Answer::Missing(missing),
+        }
+    }
+
+    fn make_irc(&mut self, figures: RoadFigures) -> Answer
+        ensures { λ a. ⌜ Irc-made (now (self .entry)) figures (now (self .exit)) a ⌝ }
+    {
+        match Irc::new(figures) {
+            Ok(irc) => {
+                self.irc = Some(irc);
+                Answer::Road(irc.asked())
+            }
+            Err(refusal) => Answer::Refused(refusal),
+        }
+    }
+
+    fn add_row(&mut self, row: Row) -> Result<Answer, AllocError>
+        ensures { λ r. ⌜ Cases r (λ a. Row-added (now (self .entry)) row (now (self .exit)) a) (λ _. As-it-was (now (self .entry)) (now (self .exit))) ⌝ }
+    {
+        self.rows.push(row)?;
+        Ok(Answer::Rows(self.rows.len()))
+    }
+
+    // A length table of the rows since the last one. Taken or refused, the next row begins a new list.
+    fn make_table(&mut self, heap: Global, bound: u32, clause: u32) -> Answer
+        ensures { λ a. ⌜ Table-made (now (self .entry)) bound clause (now (self .exit)) a ⌝ }
+    {
+        let rows = std::mem::replace(&mut self.rows, Vec::new(heap));
+        let clause = match LengthTable::new(rows.as_slice(), bound, clause) {
+            Ok(table) => table.clause,
+            Err(refusal) => return Answer::Refused(refusal),
+        };
+        let count = rows.len();
+        self.table = Some(KeptTable {
+            rows,
+            bound,
+            clause,
+        });
+        Answer::Table(count)
+    }
+
+    // The choice, if the codes that it names are there.
+    fn there(&self, choice: Choice) -> Result<Choice, Missing>
+        ensures { λ r. ⌜ There (now (self .entry)) choice r ⌝ }
+    {
+        match choice {
+            Choice::Irc => {
+                self.irc_made()?;
+            }
+            Choice::Table => {
+                self.table_made()?;
+            }
+            Choice::IrcThenTable => {
+                self.irc_made()?;
+                self.table_made()?;
+            }
+            Choice::TableThenIrc => {
+                self.table_made()?;
+                self.irc_made()?;
+            }
+        }
+        Ok(choice)
+    }
+
+    fn choose(&mut self, choice: Choice) -> Answer
+        ensures { λ a. ⌜ Chosen (now (self .entry)) choice (now (self .exit)) a ⌝ }
+    {
+        match self.there(choice) {
+            Ok(choice) => {
+                self.choice = Some(choice);
+                Answer::InUse(choice)
+            }
+            Err(missing) => Answer::Missing(missing),
+        }
+    }
+
+    // Makes the call. Where memory for a row is wanting, the desk stays as it was.
+    pub fn make(&mut self, heap: Global, call: Call) -> Result<Answer, AllocError>
+        ensures { λ r. ⌜ Cases r (λ a. Made (now (self .entry)) call (now (self .exit)) a) (λ _. As-it-was (now (self .entry)) (now (self .exit))) ⌝ }
+    {
+        match call {
+            Call::New => {
+                *self = Desk::new(heap);
+                Ok(Answer::Begun)
+            }
+            Call::Irc(figures) => Ok(self.make_irc(figures)),
+            Call::Row(row) => self.add_row(row),
+            Call::Table { bound, clause } => Ok(self.make_table(heap, bound, clause)),
+            Call::Use(choice) => Ok(self.choose(choice)),
+            Call::Ask(inquiry) => Ok(self.inquire(inquiry)),
+        }
+    }
+}

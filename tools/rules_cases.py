@@ -1,0 +1,246 @@
+#!/usr/bin/env python3
+"""Writes the cases of crates/rules_cases: calls of the job language with the answers that they should have.
+
+The answers are worked out here from docs/RULES.md in exact whole numbers, and never from what the program says.
+Run from the repository's root: tools/rules_cases.py > crates/rules_cases/stdin
+"""
+from itertools import product
+
+SPEEDS = {0: [(100, 80), (80, 65), (50, 40), (40, 30)], 1: [(80, 65), (65, 50), (40, 30), (30, 20)],
+          2: [(65, 50), (50, 40), (30, 25), (25, 20)], 3: [(50, 40), (40, 35), (25, 20), (25, 20)]}
+#        km/h: stopping, overtaking, free change, least length
+ASKED = {20: (20, None, 15, 15), 25: (25, None, 15, 15), 30: (30, None, 15, 15), 35: (45, None, 15, 15), 40: (45, 165, 12, 20),
+         50: (60, 235, 10, 30), 65: (90, 340, 8, 40), 80: (120, 470, 6, 50), 100: (180, 640, 5, 60)}
+ONE_IN = [30, 20, 15]
+PER_THOUSAND = {2: [50, 60, 70], 3: [60, 70, 80]}
+
+
+def say(call, want):
+    print(f'{call} => {want}')
+
+
+def points(*ps):
+    return ' '.join(f'{s} {y}' for s, y in ps)
+
+
+def clause(kmh, sight, w, b, length):
+    """The clause of a curve with W = w and B = b, or 0."""
+    stopping, overtaking, free, least = ASKED[kmh]
+    if abs(w) <= free * b:
+        return 0
+    if length < least:
+        return 2
+    if w < 0:
+        s, q, c = [(stopping, 4400, 3), (2 * stopping, 9600, 4), (overtaking, 9600, 5)][sight]
+    else:
+        s, q, c = stopping, 1500 + 35 * stopping, 6
+    fine = length * q * b >= abs(w) * s * s if length >= s else (2 * s - length) * abs(w) <= q * b
+    return 0 if fine else c
+
+
+def turn(w):
+    """Three points whose turn has exactly this W, with runs of 1000 m and 1001 m."""
+    rise_in = -w % 1000
+    rise_out = (w + 1001 * rise_in) // 1000
+    assert rise_out * 1000 - rise_in * 1001 == w
+    return (100, 4_000_000), (1100, 4_000_000 + rise_in), (2101, 4_000_000 + rise_in + rise_out)
+
+
+B = 1000 * 1001
+
+
+def curves(kmh, sight):
+    """Every clause at its edge: the free change, the least length, and the shortest curve of gentle and sharp turns."""
+    free, least = ASKED[kmh][2:]
+    for w in (-free * B, free * B):
+        say(f'curve {points(*turn(w))} 0', f'ok clause {clause(kmh, sight, w, B, 0)}')
+    for sign in (-1, 1):
+        w = sign * (free * B + 1)
+        for length in (0, least - 5, least, least + 5):
+            say(f'curve {points(*turn(w))} {length}', f'ok clause {clause(kmh, sight, w, B, length)}')
+        for change in (free + 1, 25, 40, 73, 120):
+            w = sign * (change * B + 7)
+            passing = [l for l in range(0, 2001, 5) if clause(kmh, sight, w, B, l) == 0]
+            if not passing:
+                say(f'shortest {points(*turn(w))}', f'none clause {clause(kmh, sight, w, B, 2000)}')
+                continue
+            shortest = passing[0]
+            say(f'shortest {points(*turn(w))}', f'ok length {shortest}')
+            for length in (shortest - 5, shortest, shortest + 5):
+                if 0 <= length <= 2000:
+                    say(f'curve {points(*turn(w))} {length}', f'ok clause {clause(kmh, sight, w, B, length)}')
+
+
+def roads():
+    for cls, terrain, speed in product(range(4), range(4), range(2)):
+        kmh = SPEEDS[cls][terrain][speed]
+        stopping, overtaking, free, least = ASKED[kmh]
+        seen = f'overtaking sight {overtaking} m' if overtaking else 'no overtaking sight'
+        for sight in range(3):
+            call = f'irc {cls} {terrain} {speed} 0 {sight}'
+            if sight == 2 and overtaking is None:
+                say(call, 'refused 7')
+                continue
+            say(call, f'ok: {kmh} km/h, stopping sight {stopping} m, {seen}, free change {free} per 1000, least length {least} m')
+            say('use irc', 'ok')
+            if speed == 0 or cls in (1, 3):
+                curves(kmh, sight)
+
+
+def gradients():
+    """The steepest grade of each terrain, up and down, and a millimetre more."""
+    for terrain, gradient in product(range(4), range(3)):
+        say(f'irc 0 {terrain} 0 {gradient} 0', 'ok')
+        for run in (10, 3000, 9999):
+            most = 1000 * run // ONE_IN[gradient] if terrain < 2 else PER_THOUSAND[terrain][gradient] * run
+            for rise, c in ((most, 0), (most + 1, 1), (-most, 0), (-most - 1, 1)):
+                say(f'grade {points((1, 4_000_000), (1 + run, 4_000_000 + rise))}', f'ok clause {c}')
+
+
+def worked():
+    """Roads worked out by hand."""
+    top = points((0, 100_000), (500, 120_000), (1100, 100_000))
+    say('irc 0 0 0 1 0', 'ok')
+    say(f'shortest {top}', 'ok length 540')
+    say(f'curve {top} 535', 'ok clause 3')
+    say('irc 0 0 0 1 1', 'ok')
+    say(f'shortest {top}', 'ok length 990')
+    say('irc 0 0 0 1 2', 'ok')
+    say(f'shortest {top}', 'none clause 5')
+    say('irc 0 0 0 0 0', 'ok')
+    say(f'grade {points((0, 100_000), (500, 120_000))}', 'ok clause 1')
+    # exactly 1 in 30, which 3.33 per cent would refuse and 3.34 per cent would pass with a millimetre more
+    say(f'grade {points((0, 0), (3000, 100_000))}', 'ok clause 0')
+    say(f'grade {points((0, 0), (3000, 100_001))}', 'ok clause 1')
+    # below the sight distance of 180 m: the formula for longer curves would ask 150 m
+    gentle = points((0, 100_000), (400, 108_000), (800, 108_000))
+    say('irc 0 0 0 1 0', 'ok')
+    say(f'shortest {gentle}', 'ok length 140')
+    say(f'curve {gentle} 135', 'ok clause 3')
+
+
+def figures():
+    """Each refusal of figures at its edge, and in its order."""
+    say('irc 0 0 0 1 0', 'ok')
+    say('grade 9990 9000000 10000 9000000', 'ok clause 0')
+    say('grade 9990 0 10001 0', 'refused 3')
+    say('grade 10001 9000001 0 0', 'refused 3')
+    say('grade 0 9000001 10 0', 'refused 4')
+    say('grade 0 0 9 9000001', 'refused 4')
+    say('grade 0 0 9 0', 'refused 23')
+    say('grade 10 0 0 0', 'refused 23')
+    say('grade 4294967295 0 4294967295 0', 'refused 3')
+    say('curve 0 0 10 0 20 0 0', 'ok clause 0')
+    say('curve 0 0 10 0 19 0 0', 'refused 23')
+    say('curve 0 0 9 0 20 0 0', 'refused 23')
+    say('curve 0 0 9 0 10001 0 0', 'refused 3')
+    say('curve 0 0 9 9000001 20 0 0', 'refused 4')
+    say('curve 0 0 9 0 20 0 3', 'refused 23')
+    say('curve 0 0 5000 0 10000 0 2000', 'ok clause 0')
+    for length in (1, 4, 6, 1999, 2001, 2005, 4294967295):
+        say(f'curve 0 0 5000 0 10000 0 {length}', 'refused 9')
+    say('shortest 0 0 10 0 19 0', 'refused 23')
+    say('shortest 0 0 10 0 20 9000001', 'refused 4')
+    for k, most in enumerate((3, 3, 1, 2, 1)):
+        figures = [0, 0, 0, 0, 0]
+        figures[k] = most
+        say('irc ' + ' '.join(map(str, figures)), 'ok')
+        figures[k] = 3 if k == 4 else most + 1
+        say('irc ' + ' '.join(map(str, figures)), 'refused 6')
+    say('irc 3 3 1 0 3', 'refused 6')
+    say('irc 3 3 1 0 2', 'refused 7')
+
+
+def tables():
+    """Length tables: each rule at its edge, and which row decides."""
+    def table(rows, want, bound=50, c=40):
+        for k, row in enumerate(rows):
+            say('row ' + ' '.join(map(str, row)), 'ok')
+        say(f'table {bound} {c}', want)
+
+    good = [(0, 20, 100, 1), (1, 10, 50, 2), (0, 40, 200, 254), (1, 30, 0, 3)]
+    table([], 'refused 8')
+    table(good, 'ok')
+    table([(2, 20, 100, 1)], 'refused 8')
+    table([(0, 2000, 2000, 254)], 'ok')
+    table([(0, 2001, 100, 1)], 'refused 8')
+    table([(0, 20, 2001, 1)], 'refused 8')
+    table([(0, 20, 100, 0)], 'refused 8')
+    table([(0, 20, 100, 255)], 'refused 8')
+    table([(0, 20, 100, 1), (0, 20, 200, 1)], 'refused 8')
+    table([(0, 20, 100, 1), (1, 20, 200, 1), (0, 19, 100, 1)], 'refused 8')
+    table([(0, 20, 100, 1), (1, 20, 200, 1)], 'ok')
+    table(good, 'refused 8', bound=2001)
+    table(good, 'refused 8', c=0)
+    table(good, 'refused 8', c=255)
+    table(good, 'ok', bound=2000, c=254)
+    table([(k % 2, k, k, 1 + k) for k in range(64)], 'ok')
+    table([(k % 2, k, k, 1 + k) for k in range(65)], 'refused 8')
+    # the last row is not above the one before it: told by its place, counted from 0
+    table([(0, 5, 0, 1), (1, 5, 0, 1), (0, 9, 0, 1), (0, 9, 0, 1)], 'refused 8: the length table breaks its rules: row 3')
+    table(good, 'ok')
+    say('use table', 'ok')
+    say('grade 0 0 1000 50000', 'ok clause 0')
+    say('grade 0 50001 1000 0', 'ok clause 40')
+    for change, least, c in ((20, 100, 1), (40, 200, 254)):
+        w = -change * B
+        say(f'curve {points(*turn(w))} {least - 5}', f'ok clause {c}')
+        say(f'curve {points(*turn(w))} {least}', 'ok clause 0')
+        say(f'shortest {points(*turn(w))}', f'ok length {least}')
+    say(f'curve {points(*turn(-20 * B - 1))} 195', 'ok clause 254')
+    say(f'curve {points(*turn(-40 * B - 1))} 2000', 'ok clause 255')
+    say(f'shortest {points(*turn(-40 * B - 1))}', 'none clause 255')
+    say(f'curve {points(*turn(10 * B))} 45', 'ok clause 2')
+    say(f'curve {points(*turn(10 * B + 1))} 0', 'ok clause 0')
+    say(f'curve {points(*turn(30 * B + 1))} 0', 'ok clause 255')
+    # the stricter of two: the first one's clause, or if that is 0 the second one's
+    say('irc 0 0 0 1 0', 'ok')
+    say('use irc table', 'ok')
+    sharp = points(*turn(-40 * B))
+    say(f'curve {sharp} 50', 'ok clause 2')
+    say(f'curve {sharp} 195', 'ok clause 3')
+    say('use table irc', 'ok')
+    say(f'curve {sharp} 50', 'ok clause 254')
+    say(f'curve {sharp} 200', 'ok clause 3')
+    say(f'curve {sharp} 2000', 'ok clause 0')
+    gentle = points(*turn(-5 * B))
+    say(f'curve {gentle} 95', 'ok clause 1')
+    say('use irc table', 'ok')
+    say(f'curve {gentle} 95', 'ok clause 1')
+    say('grade 0 0 1000 50001', 'ok clause 1')
+    say('use table irc', 'ok')
+    say('grade 0 0 1000 50001', 'ok clause 40')
+
+
+def lines():
+    """Lines that are no call change nothing and are told."""
+    say('new', 'ok')
+    say('grade 0 0 10 0', 'not understood')
+    say('use irc', 'not understood')
+    say('use table', 'not understood')
+    say('irc 0 0 0 1 0', 'ok')
+    say('use irc table', 'not understood')
+    say('use table irc', 'not understood')
+    say('use irc', 'ok')
+    for line in ('slope 0 0 10 0', 'grade', 'grade 0 0 10', 'grade 0 0 10 0 0', 'grade 0 0 10 -1', 'grade 0 0 10 +1', 'grade 0 0 10 1.0',
+                 'grade 0 0 10 4294967296', 'grade 0 0 10 x', 'Grade 0 0 10 0', 'use', 'use irc irc', 'use code', 'new 1', 'row 0 1 2', 'table 1'):
+        say(line, 'not understood')
+    say('grade 0 0 10 0', 'ok clause 0')
+    say('  grade\t0 000 10 0  # the same', 'ok clause 0')
+    say('irc 9 0 0 0 0', 'refused 6')
+    say('grade 0 0 10 0', 'ok clause 0')
+    # a refused table leaves the one before it, and ends its rows
+    say('row 0 10 20 30', 'ok: 1 row')
+    say('table 5 6', 'ok')
+    say('row 2 10 20 30', 'ok: 1 row')
+    say('table 5 6', 'refused 8')
+    say('use table', 'ok')
+    say('grade 0 0 10 51', 'ok clause 6')
+    say('row 1 10 20 30', 'ok: 1 row')
+
+
+for part in (roads, gradients, worked, figures, tables, lines):
+    say('new', 'ok')
+    say('irc 0 0 0 1 0', 'ok')
+    say('use irc', 'ok')
+    part()
