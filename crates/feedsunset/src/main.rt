@@ -25,11 +25,19 @@ fn answer_all<I: BufRead + Drop>(rt: &LibcRuntime, mut input: I) -> Result<(), A
     Ok(())
 }
 
+// The file's job, or a word on why it can't be read.
+fn answer_file(rt: &LibcRuntime, path: &str) -> Result<(), AnyError> {
+    match File::open(rt, path) {
+        Ok(file) => answer_all(rt, BufReader::new(file)),
+        Err(error) => Err(format!(rt.alloc(), "the job '{path}' can't be read: {error}")?.into()),
+    }
+}
+
 fn run(rt: &LibcRuntime) -> Result<(), AnyError> {
     let mut args = env::args(rt)?;
     let _program = args.next();
     match args.next() {
-        Some(path) => answer_all(rt, BufReader::new(File::open(rt, path.as_str())?)),
+        Some(path) => answer_file(rt, path.as_str()),
         None => answer_all(rt, BufReader::new(rt.stdin())),
     }
 }
