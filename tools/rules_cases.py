@@ -177,7 +177,7 @@ def tables():
     table([(k % 2, k, k, 1 + k) for k in range(64)], 'ok')
     table([(k % 2, k, k, 1 + k) for k in range(65)], 'refused 8')
     # the last row is not above the one before it: told by its place, counted from 0
-    table([(0, 5, 0, 1), (1, 5, 0, 1), (0, 9, 0, 1), (0, 9, 0, 1)], 'refused 8: the length table breaks its rules: row 3')
+    table([(0, 5, 0, 1), (1, 5, 0, 1), (0, 9, 0, 1), (0, 9, 0, 1)], "refused 8: a figure out of range, or a bound not above an earlier one of its kind, in the table's row 3")
     table(good, 'ok')
     say('use table', 'ok')
     say('grade 0 0 1000 50000', 'ok clause 0')
@@ -230,13 +230,13 @@ def lines():
     say('irc 9 0 0 0 0', 'refused 6')
     say('grade 0 0 10 0', 'ok clause 0')
     # a refused table leaves the one before it, and ends its rows
-    say('row 0 10 20 30', 'ok: 1 row')
+    say('row 0 10 20 30', 'ok: rows for the next table: 1')
     say('table 5 6', 'ok')
-    say('row 2 10 20 30', 'ok: 1 row')
+    say('row 2 10 20 30', 'ok: rows for the next table: 1')
     say('table 5 6', 'refused 8')
     say('use table', 'ok')
     say('grade 0 0 10 51', 'ok clause 6')
-    say('row 1 10 20 30', 'ok: 1 row')
+    say('row 1 10 20 30', 'ok: rows for the next table: 1')
 
 
 for part in (roads, gradients, worked, figures, tables, lines):

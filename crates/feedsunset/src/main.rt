@@ -1,6 +1,6 @@
 // Answers a job, one call to a line, from the file that is named or from standard input.
-use job::answer::ReplyDisplay;
-use job::desk::Desk;
+use desk::desk::Desk;
+use job::reply::ReplyDisplay;
 use job::runner::answer_line;
 use std::env;
 use std::error::AnyError;

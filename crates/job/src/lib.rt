@@ -1,7 +1,5 @@
 // The job language: a line is read as a call, the call is made, and its answer is told in one line.
-pub mod answer;
-pub mod call;
-pub mod desk;
-pub mod misread;
+mod reading;
+pub mod reply;
 pub mod runner;
-pub mod words;
+mod words;

@@ -1,11 +1,12 @@
 // One line of a job: read, made and answered.
 ghost use Rattle.std.specs.Results.{Cases};
-ghost use Rattle.job.specs.Desk.{As-it-was, Moved};
-use crate::answer::Reply;
-use crate::call::read_call;
-use crate::desk::Desk;
-use crate::misread::Misread;
+ghost use Rattle.desk.specs.Desk.{As-it-was};
+ghost use Rattle.job.specs.Runner.{Moved};
+use crate::reading::read_call;
+use crate::reply::Misread;
+use crate::reply::Reply;
 use crate::words::words_of;
+use desk::desk::Desk;
 use std::alloc::AllocError;
 use std::alloc::Global;
 

@@ -1,10 +1,10 @@
 // The words of a line, and the figures among them.
-use crate::misread::Misread;
+use crate::reply::Misread;
 use std::alloc::AllocError;
 use std::alloc::Global;
 
 // What stands before a '#', cut at blanks.
-pub(crate) fn words_of(heap: Global, line: &str) -> Result<Vec<&str>, AllocError> {
+pub fn words_of(heap: Global, line: &str) -> Result<Vec<&str>, AllocError> {
     let text = match line.split_once('#') {
         Some((front, _)) => front,
         None => line,
@@ -13,7 +13,7 @@ pub(crate) fn words_of(heap: Global, line: &str) -> Result<Vec<&str>, AllocError
 }
 
 // A figure is written in digits alone.
-pub(crate) fn figure(word: &str) -> Result<u32, Misread<'_>> {
+pub fn figure(word: &str) -> Result<u32, Misread<'_>> {
     for b in word.bytes() {
         if !b.is_ascii_digit() {
             return Err(Misread::NoFigure(word));
@@ -26,7 +26,7 @@ pub(crate) fn figure(word: &str) -> Result<u32, Misread<'_>> {
 }
 
 // The figures of a call that takes N of them.
-pub(crate) fn figures<'a, const N: usize>(words: &[&'a str]) -> Result<[u32; N], Misread<'a>> {
+pub fn figures<'a, const N: usize>(words: &[&'a str]) -> Result<[u32; N], Misread<'a>> {
     if words.len() != N {
         return Err(Misread::Count {
             wanted: N,

@@ -22,7 +22,7 @@ use crate::turn::Turn;
 use std::fmt;
 
 // What the standard refuses a grade or a curve by.
-#[derive(Clone, Copy, Debug, PartialEq, Eq)]
+#[derive(Clone, Copy)]
 pub enum Clause {
     Gradient,
     LeastLength,
@@ -62,19 +62,22 @@ impl Clause {
     }
 }
 
+impl Clause {
+    fn words(self) -> &'static str {
+        match self {
+            Clause::Gradient => "the grade is too steep",
+            Clause::LeastLength => "the curve is under the least length",
+            Clause::StoppingSight => "the summit is too short for stopping sight",
+            Clause::IntermediateSight => "the summit is too short for intermediate sight",
+            Clause::OvertakingSight => "the summit is too short for overtaking sight",
+            Clause::ValleySight => "the valley is too short for headlight sight",
+        }
+    }
+}
+
 pub impl fmt::Display for Clause as ClauseDisplay {
     fn fmt<W: fmt::Write>(&self, f: &mut fmt::Formatter<W>) -> fmt::Result {
-        match self {
-            Clause::Gradient => write!(f, "the grade is too steep"),
-            Clause::LeastLength => write!(f, "the curve is under the least length"),
-            Clause::StoppingSight => write!(f, "the summit is too short for stopping sight"),
-            Clause::IntermediateSight => write!(
-                f,
-                "the summit is too short for intermediate sight"
-            ),
-            Clause::OvertakingSight => write!(f, "the summit is too short for overtaking sight"),
-            Clause::ValleySight => write!(f, "the valley is too short for headlight sight"),
-        }
+        f.write_str(self.words())
     }
 }
 

@@ -4,7 +4,7 @@ ghost use Rattle.rules.specs.Refusals.{refusal-number};
 use std::fmt;
 
 // What a length table has against it, and where.
-#[derive(Clone, Copy, Debug, PartialEq, Eq)]
+#[derive(Clone, Copy)]
 pub enum TableFault {
     RowCount,
     Row(usize),
@@ -12,7 +12,7 @@ pub enum TableFault {
 }
 
 // A refusal. Each has one number, which users and documents know it by.
-#[derive(Clone, Copy, Debug, PartialEq, Eq)]
+#[derive(Clone, Copy)]
 pub enum Refusal {
     StationTooHigh,
     LevelTooHigh,
@@ -40,41 +40,41 @@ impl Refusal {
     }
 }
 
-pub impl fmt::Display for TableFault as TableFaultDisplay {
-    fn fmt<W: fmt::Write>(&self, f: &mut fmt::Formatter<W>) -> fmt::Result {
+impl TableFault {
+    fn words(self) -> &'static str {
         match self {
-            TableFault::RowCount => write!(f, "it has no row, or more than 64"),
-            TableFault::Row(place) => {
-                let place = *place;
-                write!(
-                    f,
-                    "row {place}, counted from 0, has a figure out of range, or a bound not above that of an earlier row of its kind"
-                )
-            }
-            TableFault::Gradient => write!(
-                f,
-                "its gradient bound is above 2000, or the bound's clause is not 1 to 254"
-            ),
+            TableFault::RowCount => "the table has no row, or more than 64",
+            TableFault::Row(_) =>
+                "a figure out of range, or a bound not above an earlier one of its kind, in the table's row",
+            TableFault::Gradient =>
+                "the table's gradient bound is above 2000, or that bound's clause is not 1 to 254",
+        }
+    }
+}
+
+impl Refusal {
+    fn words(self) -> &'static str {
+        match self {
+            Refusal::StationTooHigh => "a station is above 10000 m",
+            Refusal::LevelTooHigh => "a level is above 9000000 mm",
+            Refusal::UnknownRoadFigure => "a road figure is unknown",
+            Refusal::OvertakingTooSlow => "overtaking sight is not given below 40 km/h",
+            Refusal::UnlawfulTable(fault) => fault.words(),
+            Refusal::LengthOutOfStep => "a length is a multiple of 5 from 0 to 2000 m",
+            Refusal::StationsNotRising => "stations rise by at least 10 m from point to point",
         }
     }
 }
 
 pub impl fmt::Display for Refusal as RefusalDisplay {
     fn fmt<W: fmt::Write>(&self, f: &mut fmt::Formatter<W>) -> fmt::Result {
-        match self {
-            Refusal::StationTooHigh => write!(f, "a station is above 10000 m"),
-            Refusal::LevelTooHigh => write!(f, "a level is above 9000000 mm"),
-            Refusal::UnknownRoadFigure => write!(f, "a road figure is unknown"),
-            Refusal::OvertakingTooSlow => write!(f, "overtaking sight is not given below 40 km/h"),
-            Refusal::UnlawfulTable(fault) => {
-                let fault = *fault;
-                write!(f, "the length table breaks its rules: {fault}")
-            }
-            Refusal::LengthOutOfStep => write!(f, "a length is a multiple of 5 from 0 to 2000 m"),
-            Refusal::StationsNotRising => write!(
+        let words = self.words();
+        match *self {
+            Refusal::UnlawfulTable(TableFault::Row(place)) => write!(
                 f,
-                "stations rise by at least 10 m from point to point"
+                "{words} {place}, counted from 0"
             ),
+            _ => f.write_str(words),
         }
     }
 }

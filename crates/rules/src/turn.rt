@@ -10,7 +10,7 @@ use crate::point::Point;
 use crate::refusal::Refusal;
 
 // Which way the road turns: over a hill top, or through a hollow.
-#[derive(Clone, Copy, Debug, PartialEq, Eq)]
+#[derive(Clone, Copy)]
 pub enum Kind {
     Summit,
     Valley,

@@ -1,7 +1,7 @@
 // Holds the answers to calls against the answers that they should have.
 // A line of input is a call, " => ", and what its answer must begin with. What differs is printed, and at the end the count.
-use job::answer::ReplyDisplay;
-use job::desk::Desk;
+use desk::desk::Desk;
+use job::reply::ReplyDisplay;
 use job::runner::answer_line;
 use std::alloc::AllocError;
 use std::alloc::Global;

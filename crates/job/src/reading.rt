@@ -1,48 +1,12 @@
-// A call, as a line of a job names it.
-use crate::misread::Misread;
+// A call, read from the words of a line.
+use crate::reply::Misread;
 use crate::words::figures;
+use desk::call::Call;
+use desk::call::Choice;
+use desk::call::Inquiry;
 use rules::point::Point;
 use rules::road::RoadFigures;
 use rules::table::Row;
-
-// Which code judges: one alone, or the stricter of two in this order.
-#[derive(Clone, Copy)]
-pub enum Choice {
-    Irc,
-    Table,
-    IrcThenTable,
-    TableThenIrc,
-}
-
-// What a code is asked.
-#[derive(Clone, Copy)]
-pub enum Inquiry {
-    Grade {
-        from: Point,
-        to: Point,
-    },
-    Curve {
-        before: Point,
-        at: Point,
-        after: Point,
-        length: u32,
-    },
-    Shortest {
-        before: Point,
-        at: Point,
-        after: Point,
-    },
-}
-
-#[derive(Clone, Copy)]
-pub enum Call {
-    New,
-    Irc(RoadFigures),
-    Row(Row),
-    Table { bound: u32, clause: u32 },
-    Use(Choice),
-    Ask(Inquiry),
-}
 
 fn read_choice<'a>(names: &[&'a str]) -> Result<Choice, Misread<'a>> {
     match names {
@@ -93,7 +57,7 @@ fn read_inquiry<'a>(name: &'a str, rest: &[&'a str]) -> Result<Inquiry, Misread<
 }
 
 // The call that the words make: its name, then its figures.
-pub(crate) fn read_call<'a>(name: &'a str, rest: &[&'a str]) -> Result<Call, Misread<'a>> {
+pub fn read_call<'a>(name: &'a str, rest: &[&'a str]) -> Result<Call, Misread<'a>> {
     match name {
         "new" => {
             let [] = figures::<0>(rest)?;

@@ -8,7 +8,6 @@ use lib.ListN.{length}
 use Rattle.std.specs.Of.Vec.{vec-items}
 use Rattle.std.specs.Options.{Cases as BySome}
 use Rattle.std.specs.Results.{Cases}
-use Rattle.std.specs.declared.option.Option.{Option}
 use Rattle.std.specs.declared.option.Option.the-variants.{None, Some}
 use Rattle.std.specs.declared.result.Result.{Result}
 use Rattle.std.specs.declared.result.Result.the-variants.{Ok, Err}
@@ -27,20 +26,18 @@ use Rattle.rules.specs.declared.refusal.Refusal.the-variants.{LengthOutOfStep}
 use Rattle.rules.specs.declared.road.RoadFigures.{RoadFigures}
 use Rattle.rules.specs.declared.table.Row.{Row}
 use Rattle.rules.specs.declared.turn.Bend.{Bend}
-use Rattle.job.specs.declared.answer.Answer.{Answer}
-use Rattle.job.specs.declared.answer.Answer.the-variants as answer
-use Rattle.job.specs.declared.answer.Reply.{Reply}
-use Rattle.job.specs.declared.answer.Reply.the-variants as reply
-use Rattle.job.specs.declared.call.Call.{Call}
-use Rattle.job.specs.declared.call.Call.the-variants as call
-use Rattle.job.specs.declared.call.Choice.{Choice}
-use Rattle.job.specs.declared.call.Choice.the-variants as choice
-use Rattle.job.specs.declared.call.Inquiry.{Inquiry}
-use Rattle.job.specs.declared.call.Inquiry.the-variants as inquiry
-use Rattle.job.specs.declared.desk.Desk.{Desk}
-use Rattle.job.specs.declared.desk.KeptTable.{KeptTable}
-use Rattle.job.specs.declared.misread.Missing.{Missing}
-use Rattle.job.specs.declared.misread.Missing.the-variants as missing
+use Rattle.desk.specs.declared.answer.Answer.{Answer}
+use Rattle.desk.specs.declared.answer.Answer.the-variants as answer
+use Rattle.desk.specs.declared.call.Call.{Call}
+use Rattle.desk.specs.declared.call.Call.the-variants as call
+use Rattle.desk.specs.declared.call.Choice.{Choice}
+use Rattle.desk.specs.declared.call.Choice.the-variants as choice
+use Rattle.desk.specs.declared.call.Inquiry.{Inquiry}
+use Rattle.desk.specs.declared.call.Inquiry.the-variants as inquiry
+use Rattle.desk.specs.declared.desk.Desk.{Desk}
+use Rattle.desk.specs.declared.desk.KeptTable.{KeptTable}
+use Rattle.desk.specs.declared.answer.Missing.{Missing}
+use Rattle.desk.specs.declared.answer.Missing.the-variants as missing
 
 -- why a curve is not judged: its points first, then its length
 abbrev pub Curve-refused : List Point → ℕ → Refusal → Type 0
@@ -158,9 +155,3 @@ Made d (call.Row row) d′ a = Row-added d row d′ a
 Made d (call.Table bound clause) d′ a = Table-made d bound clause d′ a
 Made d (call.Use c) d′ a = Chosen d c d′ a
 Made d (call.Ask q) d′ a = Inquired d q a × (d′ ≡ d)
-
--- a line moves the desk by a call, which is answered; a line that is no call leaves it
-abbrev pub Moved : Desk → Desk → Option Reply → Type 0
-Moved d d′ None = d′ ≡ d
-Moved d d′ (Some (reply.Misread m)) = d′ ≡ d
-Moved d d′ (Some (reply.Answer a)) = (c : Call) × Made d c d′ a

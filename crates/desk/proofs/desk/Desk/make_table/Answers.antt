@@ -5,8 +5,8 @@ use lib.ListN.{length}
 use Rattle.std.specs.Of.Vec.{vec-items}
 use Rattle.rules.specs.Tables.{Lawful}
 use Rattle.rules.specs.declared.table.Row.{Row}
-use Rattle.job.specs.declared.answer.Answer.the-variants.{Table}
-use Rattle.job.proofs.desk.Desk.make_table.Needs as need
+use Rattle.desk.specs.declared.answer.Answer.the-variants.{Table}
+use Rattle.desk.proofs.desk.Desk.make_table.Needs as need
 
 pub returns : need.returns
 returns c =
