@@ -1,6 +1,6 @@
 -- Edits: which are well-formed, and why one is refused for its form. Assumes nothing.
 use mathlib.Core.Path.{_≡_}
-use Prim.Native.Nat.{ℕ, _<_, _≤_}
+use Prim.Native.Nat.{ℕ, _^_, _<_, _≤_}
 use Rattle.std.specs.declared.result.Result.{Result}
 use Rattle.std.specs.declared.result.Result.the-variants.{Ok, Err}
 use Rattle.rules.specs.Refusals.{refusal-number}
@@ -39,9 +39,12 @@ Numbered (Lift n s) = n ≤ 39
 Numbered (Fix n s st l h) = n ≤ 15
 Numbered (Clear n s) = n ≤ 15
 
--- sequence numbers begin at 1
+-- sequence numbers go from 1 to 4,294,967,295
+abbrev pub In-sequence : ℕ → Type 0
+In-sequence s = (0 < s) × (s < 2 ^ 32)
+
 abbrev pub Sequenced : Edit → Type 0
-Sequenced e = 0 < sequence e
+Sequenced e = In-sequence (sequence e)
 
 -- no station is above 10,000 m
 abbrev pub Station-near : Edit → Type 0
@@ -88,9 +91,9 @@ Checked e (Err x) = Form-refused e x
 
 -- the checks in two parts, on plain figures
 abbrev pub Slot-checked : (number most sequence : ℕ) → Result (Unit {0}) EditRefusal → Type 0
-Slot-checked n most s (Ok u) = (n ≤ most) × (0 < s)
+Slot-checked n most s (Ok u) = (n ≤ most) × In-sequence s
 Slot-checked n most s (Err NumberTooHigh) = n ≤ most → ⊥
-Slot-checked n most s (Err SequenceZero) = (n ≤ most) × (0 < s → ⊥)
+Slot-checked n most s (Err SequenceZero) = (n ≤ most) × (In-sequence s → ⊥)
 Slot-checked n most s (Err StationTooHigh) = ⊥
 Slot-checked n most s (Err LevelTooHigh) = ⊥
 Slot-checked n most s (Err LowAboveHigh) = ⊥

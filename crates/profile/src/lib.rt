@@ -1,0 +1,2 @@
+// A profile: pegs and fixed levels as its edits and books left them.
+pub mod profile;
