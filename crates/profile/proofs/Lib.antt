@@ -1,1 +1,6 @@
+pub mod AnyOrder
+pub mod BookStands
 pub mod Kept
+pub mod Runs
+pub mod Standing
+pub mod Whole

@@ -1,12 +1,15 @@
 // The calls on a profile.
 ghost use mathlib.Core.Path.{_≡_};
-ghost use Prim.Native.Nat.{ℕ, _<_, _≤_};
-ghost use Rattle.std.specs.declared.option.Option.the-variants.{None};
+ghost use mathlib.Core.List.{List};
 ghost use Rattle.pegs.specs.Tables.{fixed-slot, peg-slot};
+ghost use Rattle.profile.specs.History.{Event, Run};
+ghost use Rattle.profile.specs.Law.{Any-order, As-edited};
 ghost use Rattle.profile.specs.Steps.{Applied, New};
 use crate::profile::Profile;
 use pegs::edit::Edit;
 use pegs::edit::EditRefusal;
+use pegs::peg::FixedLevel;
+use pegs::peg::Peg;
 use pegs::tables::Tables;
 
 impl Profile {
@@ -29,4 +32,31 @@ impl Profile {
         self.fitted = None;
         Ok(())
     }
+
+    // The peg of this number, if it is in force: as its highest-numbered edit since the last accepted book said.
+    pub fn peg(&self, number: u32) -> Option<Peg>
+        ensures value { λ r. ⌜ r ≡ peg-slot (now (self .entry) .tables) number .held ⌝ }
+        ensures history { λ _. ⌜ ((h : List Event) → Run h (now (self .entry)) → As-edited h (now (self .entry))) ⌝ }
+    {
+        if number < 40 {
+            return self.tables.pegs[number as usize].held;
+        }
+        None
+    }
+
+    // The fixed level of this number, likewise.
+    pub fn fixed_level(&self, number: u32) -> Option<FixedLevel>
+        ensures value { λ r. ⌜ r ≡ fixed-slot (now (self .entry) .tables) number .held ⌝ }
+        ensures history { λ _. ⌜ ((h : List Event) → Run h (now (self .entry)) → As-edited h (now (self .entry))) ⌝ }
+    {
+        if number < 16 {
+            return self.tables.fixed[number as usize].held;
+        }
+        None
+    }
+
+    // A law for callers: edits that arrive in another order leave the same profile.
+    pub fn any_order(&self)
+        ensures { λ _. ⌜ Any-order ⌝ }
+    {}
 }
