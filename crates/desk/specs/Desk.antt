@@ -11,6 +11,12 @@ use Rattle.std.specs.Results.{Cases}
 use Rattle.std.specs.declared.option.Option.the-variants.{None, Some}
 use Rattle.std.specs.declared.result.Result.{Result}
 use Rattle.std.specs.declared.result.Result.the-variants.{Ok, Err}
+use Rattle.pegs.specs.Tables.{fixed-slot, peg-slot}
+use Rattle.pegs.specs.declared.edit.Edit.{Edit}
+use Rattle.pegs.specs.declared.edit.Edit.the-variants as edit
+use Rattle.pegs.specs.declared.edit.EditRefusal.{EditRefusal}
+use Rattle.pegs.specs.declared.tables.Tables.{Tables}
+use Rattle.profile.specs.Steps.{Applied, New}
 use Rattle.rules.specs.Irc.{irc-curve, irc-grade, Irc-refused}
 use Rattle.rules.specs.Points.{Points-refused, Points-sound, rise, run}
 use Rattle.rules.specs.Roads.{Named}
@@ -28,6 +34,8 @@ use Rattle.rules.specs.declared.table.Row.{Row}
 use Rattle.rules.specs.declared.turn.Bend.{Bend}
 use Rattle.desk.specs.declared.answer.Answer.{Answer}
 use Rattle.desk.specs.declared.answer.Answer.the-variants as answer
+use Rattle.desk.specs.declared.answer.Stands.{Stands}
+use Rattle.desk.specs.declared.answer.Stands.the-variants as stands
 use Rattle.desk.specs.declared.call.Call.{Call}
 use Rattle.desk.specs.declared.call.Call.the-variants as call
 use Rattle.desk.specs.declared.call.Choice.{Choice}
@@ -94,6 +102,7 @@ Inquired d q a = BySome (d .choice) (a ≡ answer.Missing missing.Code) (λ c. (
 
 -- a desk with nothing on it
 pub record Empty (d : Desk) : Type 0 where
+  pub profile : New (d .profile)
   pub irc : d .irc ≡ None
   pub rows : vec-items (d .rows) ≡ []
   pub table : d .table ≡ None
@@ -101,6 +110,7 @@ pub record Empty (d : Desk) : Type 0 where
 
 -- the same things on the desk
 pub record As-it-was (d d′ : Desk) : Type 0 where
+  pub profile : d′ .profile ≡ d .profile
   pub irc : d′ .irc ≡ d .irc
   pub rows : vec-items (d′ .rows) ≡ vec-items (d .rows)
   pub table : d′ .table ≡ d .table
@@ -109,13 +119,14 @@ pub record As-it-was (d d′ : Desk) : Type 0 where
 -- a code of the standard, or the refusal and the desk as it was
 abbrev pub Irc-made : Desk → RoadFigures → Desk → Answer → Type 0
 Irc-made d f d′ a =
-    ((c : Irc) × Named f (c .road) × (a ≡ answer.Road (asked (design-speed (c .road)))) × (d′ ≡ record { irc = Some c; rows = d .rows; table = d .table; choice = d .choice }))
+    ((c : Irc) × Named f (c .road) × (a ≡ answer.Road (asked (design-speed (c .road)))) × (d′ ≡ record { profile = d .profile; irc = Some c; rows = d .rows; table = d .table; choice = d .choice }))
     ⊎ ((e : Refusal) × Irc-refused f e × (a ≡ answer.Refused e) × (d′ ≡ d))
 
 -- one row more
 pub record Row-added (d : Desk) (row : Row) (d′ : Desk) (a : Answer) : Type 0 where
   pub rows : vec-items (d′ .rows) ≡ vec-items (d .rows) ++ (row ∷ [])
   pub told : a ≡ answer.Rows (length (vec-items (d′ .rows)))
+  pub profile : d′ .profile ≡ d .profile
   pub irc : d′ .irc ≡ d .irc
   pub table : d′ .table ≡ d .table
   pub choice : d′ .choice ≡ d .choice
@@ -130,6 +141,7 @@ Table-outcome d bound clause d′ a =
 -- taken or refused, a table ends the list of rows
 pub record Table-made (d : Desk) (bound clause : ℕ) (d′ : Desk) (a : Answer) : Type 0 where
   pub outcome : Table-outcome d bound clause d′ a
+  pub profile : d′ .profile ≡ d .profile
   pub rows : vec-items (d′ .rows) ≡ []
   pub irc : d′ .irc ≡ d .irc
   pub choice : d′ .choice ≡ d .choice
@@ -144,8 +156,30 @@ There d choice.TableThenIrc r = BySome (d .table) (r ≡ Err missing.Table) (λ 
 -- a choice in use, or what is missing and the desk as it was
 abbrev pub Chosen : Desk → Choice → Desk → Answer → Type 0
 Chosen d c d′ a =
-    (There d c (Ok c) × (a ≡ answer.InUse c) × (d′ ≡ record { irc = d .irc; rows = d .rows; table = d .table; choice = Some c }))
+    (There d c (Ok c) × (a ≡ answer.InUse c) × (d′ ≡ record { profile = d .profile; irc = d .irc; rows = d .rows; table = d .table; choice = Some c }))
     ⊎ ((m : Missing) × There d c (Err m) × (a ≡ answer.Missing m) × (d′ ≡ d))
+
+-- what stands under the number that an edit names
+abbrev pub stands-of : Edit → Tables → Stands
+stands-of (edit.Place n s st l) t = stands.Peg n (peg-slot t n .held)
+stands-of (edit.Lift n s) t = stands.Peg n (peg-slot t n .held)
+stands-of (edit.Fix n s st l h) t = stands.Fixed n (fixed-slot t n .held)
+stands-of (edit.Clear n s) t = stands.Fixed n (fixed-slot t n .held)
+
+-- the edit was taken or refused, and what stands now
+abbrev pub edit-answer : Result (Unit {0}) EditRefusal → Stands → Answer
+edit-answer (Ok u) s = answer.Edited s
+edit-answer (Err x) s = answer.EditRefused x s
+
+-- the profile moves by the edit, and all else stays
+pub record Edit-made (d : Desk) (e : Edit) (d′ : Desk) (a : Answer) : Type 0 where
+  pub reply : Result (Unit {0}) EditRefusal
+  pub profile : Applied e (d .profile) (d′ .profile) reply
+  pub told : a ≡ edit-answer reply (stands-of e (d′ .profile .tables))
+  pub irc : d′ .irc ≡ d .irc
+  pub rows : d′ .rows ≡ d .rows
+  pub table : d′ .table ≡ d .table
+  pub choice : d′ .choice ≡ d .choice
 
 -- what a call does to the desk, and what it answers
 abbrev pub Made : Desk → Call → Desk → Answer → Type 0
@@ -155,3 +189,4 @@ Made d (call.Row row) d′ a = Row-added d row d′ a
 Made d (call.Table bound clause) d′ a = Table-made d bound clause d′ a
 Made d (call.Use c) d′ a = Chosen d c d′ a
 Made d (call.Ask q) d′ a = Inquired d q a × (d′ ≡ d)
+Made d (call.Edit e) d′ a = Edit-made d e d′ a

@@ -1,5 +1,8 @@
 // The answers to calls.
 use crate::call::Choice;
+use pegs::edit::EditRefusal;
+use pegs::peg::FixedLevel;
+use pegs::peg::Peg;
 use rules::refusal::Refusal;
 use rules::speeds::Asked;
 
@@ -11,6 +14,19 @@ pub enum Missing {
     Code,
 }
 
+// What stands under a number.
+#[derive(Clone, Copy)]
+pub enum Stands {
+    Peg {
+        number: u32,
+        held: Option<Peg>,
+    },
+    Fixed {
+        number: u32,
+        held: Option<FixedLevel>,
+    },
+}
+
 #[derive(Clone, Copy)]
 pub enum Answer {
     Begun,
@@ -18,9 +34,21 @@ pub enum Answer {
     Rows(usize),
     Table(usize),
     InUse(Choice),
-    Verdict { clause: u8, by: Choice },
-    Shortest { metres: u32 },
-    NoLength { clause: u8 },
+    Verdict {
+        clause: u8,
+        by: Choice,
+    },
+    Shortest {
+        metres: u32,
+    },
+    NoLength {
+        clause: u8,
+    },
+    Edited(Stands),
+    EditRefused {
+        refusal: EditRefusal,
+        stands: Stands,
+    },
     Refused(Refusal),
     Missing(Missing),
 }

@@ -1,4 +1,5 @@
 // The calls of a job.
+use pegs::edit::Edit;
 use rules::point::Point;
 use rules::road::RoadFigures;
 use rules::table::Row;
@@ -40,4 +41,5 @@ pub enum Call {
     Table { bound: u32, clause: u32 },
     Use(Choice),
     Ask(Inquiry),
+    Edit(Edit),
 }

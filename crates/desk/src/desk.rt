@@ -3,14 +3,17 @@ ghost use mathlib.Core.Path.{_≡_};
 ghost use Rattle.std.specs.Of.Vec.{vec-items};
 ghost use Rattle.std.specs.Options.{Cases as BySome};
 ghost use Rattle.std.specs.Results.{Cases};
-ghost use Rattle.desk.specs.Desk.{Answers, As-it-was, Asked-by, Chosen, Empty, Inquired, Irc-made, Made, Row-added, Table-made, There, told-of};
+ghost use Rattle.desk.specs.Desk.{Answers, As-it-was, Asked-by, Chosen, Edit-made, Empty, Inquired, Irc-made, Made, Row-added, Table-made, There, stands-of, told-of};
 ghost use Rattle.std.specs.declared.result.Result.the-variants.{Ok, Err};
 ghost use Rattle.desk.specs.declared.answer.Missing.the-variants as missing;
 use crate::answer::Answer;
 use crate::answer::Missing;
+use crate::answer::Stands;
 use crate::call::Call;
 use crate::call::Choice;
 use crate::call::Inquiry;
+use pegs::edit::Edit;
+use profile::profile::Profile;
 use rules::code::RoadCode;
 use rules::grade::Grade;
 use rules::irc::Irc;
@@ -36,9 +39,10 @@ pub struct KeptTable {
     clause: u8,
 }
 
-// The codes of a job, the rows since its last table, and which code judges.
+// The profile of a job, its codes, the rows since its last table, and which code judges.
 #[derive(Drop)]
 pub struct Desk {
+    profile: Profile,
     irc: Option<Irc>,
     rows: Vec<Row>,
     table: Option<KeptTable>,
@@ -109,6 +113,7 @@ impl Desk {
         ensures { λ r. ⌜ Empty r ⌝ }
     {
         Desk {
+            profile: Profile::new(),
             irc: None,
             rows: Vec::new(heap),
             table: None,
@@ -244,6 +249,42 @@ impl Desk {
         }
     }
 
+    // What stands under the number that an edit names.
+    fn standing(&self, edit: Edit) -> Stands
+        ensures { λ r. ⌜ r ≡ stands-of edit (now (self .entry) .profile .tables) ⌝ }
+    {
+        match edit {
+            Edit::Place { number, .. } => Stands::Peg {
+                number,
+                held: self.profile.peg(number),
+            },
+            Edit::Lift { number, .. } => Stands::Peg {
+                number,
+                held: self.profile.peg(number),
+            },
+            Edit::Fix { number, .. } => Stands::Fixed {
+                number,
+                held: self.profile.fixed_level(number),
+            },
+            Edit::Clear { number, .. } => Stands::Fixed {
+                number,
+                held: self.profile.fixed_level(number),
+            },
+        }
+    }
+
+    fn edit(&mut self, edit: Edit) -> Answer
+        ensures { λ a. ⌜ Edit-made (now (self .entry)) edit (now (self .exit)) a ⌝ }
+    {
+        match self.profile.apply(edit) {
+            Ok(()) => Answer::Edited(self.standing(edit)),
+            Err(refusal) => Answer::EditRefused {
+                refusal,
+                stands: self.standing(edit),
+            },
+        }
+    }
+
     // Makes the call. Where memory for a row is wanting, the desk stays as it was.
     pub fn make(&mut self, heap: Global, call: Call) -> Result<Answer, AllocError>
         ensures { λ r. ⌜ Cases r (λ a. Made (now (self .entry)) call (now (self .exit)) a) (λ _. As-it-was (now (self .entry)) (now (self .exit))) ⌝ }
@@ -258,6 +299,7 @@ impl Desk {
             Call::Table { bound, clause } => Ok(self.make_table(heap, bound, clause)),
             Call::Use(choice) => Ok(self.choose(choice)),
             Call::Ask(inquiry) => Ok(self.inquire(inquiry)),
+            Call::Edit(edit) => Ok(self.edit(edit)),
         }
     }
 }

@@ -4,6 +4,7 @@ use crate::words::figures;
 use desk::call::Call;
 use desk::call::Choice;
 use desk::call::Inquiry;
+use pegs::edit::Edit;
 use rules::point::Point;
 use rules::road::RoadFigures;
 use rules::table::Row;
@@ -56,6 +57,39 @@ fn read_inquiry<'a>(name: &'a str, rest: &[&'a str]) -> Result<Inquiry, Misread<
     }
 }
 
+fn read_edit<'a>(name: &'a str, rest: &[&'a str]) -> Result<Edit, Misread<'a>> {
+    match name {
+        "place" => {
+            let [number, sequence, station, level] = figures::<4>(rest)?;
+            Ok(Edit::Place {
+                number,
+                sequence,
+                station,
+                level,
+            })
+        }
+        "lift" => {
+            let [number, sequence] = figures::<2>(rest)?;
+            Ok(Edit::Lift { number, sequence })
+        }
+        "fix" => {
+            let [number, sequence, station, low, high] = figures::<5>(rest)?;
+            Ok(Edit::Fix {
+                number,
+                sequence,
+                station,
+                low,
+                high,
+            })
+        }
+        "clear" => {
+            let [number, sequence] = figures::<2>(rest)?;
+            Ok(Edit::Clear { number, sequence })
+        }
+        _ => Err(Misread::UnknownCall(name)),
+    }
+}
+
 // The call that the words make: its name, then its figures.
 pub fn read_call<'a>(name: &'a str, rest: &[&'a str]) -> Result<Call, Misread<'a>> {
     match name {
@@ -87,6 +121,7 @@ pub fn read_call<'a>(name: &'a str, rest: &[&'a str]) -> Result<Call, Misread<'a
             Ok(Call::Table { bound, clause })
         }
         "use" => Ok(Call::Use(read_choice(rest)?)),
-        _ => Ok(Call::Ask(read_inquiry(name, rest)?)),
+        "grade" | "curve" | "shortest" => Ok(Call::Ask(read_inquiry(name, rest)?)),
+        _ => Ok(Call::Edit(read_edit(name, rest)?)),
     }
 }

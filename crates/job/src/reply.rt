@@ -1,7 +1,10 @@
 // What a line comes to, told in one line: stable first words, then prose for a person.
 use desk::answer::Answer;
 use desk::answer::Missing;
+use desk::answer::Stands;
 use desk::call::Choice;
+use pegs::edit::EditRefusal;
+use pegs::edit::EditRefusalDisplay;
 use rules::irc::Clause;
 use rules::irc::ClauseDisplay;
 use rules::refusal::RefusalDisplay;
@@ -85,6 +88,51 @@ fn tell_verdict<W: fmt::Write>(clause: u8, by: Choice, f: &mut fmt::Formatter<W>
     }
 }
 
+// What stands under a number, or that nothing does.
+fn tell_stands<W: fmt::Write>(stands: Stands, f: &mut fmt::Formatter<W>) -> fmt::Result {
+    match stands {
+        Stands::Peg {
+            number,
+            held: Some(peg),
+        } => {
+            let station = peg.station;
+            let level = peg.level;
+            write!(f, "peg {number} stands at station {station}, level {level}")
+        }
+        Stands::Peg { number, held: None } => write!(f, "peg {number} is absent"),
+        Stands::Fixed {
+            number,
+            held: Some(fixed),
+        } => {
+            let station = fixed.station;
+            let low = fixed.low;
+            let high = fixed.high;
+            write!(
+                f,
+                "fixed level {number} asks {low} to {high} at station {station}"
+            )
+        }
+        Stands::Fixed { number, held: None } => write!(f, "fixed level {number} is absent"),
+    }
+}
+
+// A late edit is told with what stands instead.
+fn tell_edit_refused<W: fmt::Write>(
+    refusal: EditRefusal,
+    stands: Stands,
+    f: &mut fmt::Formatter<W>,
+) -> fmt::Result {
+    let number = refusal.number();
+    write!(f, "refused {number}: {refusal}")?;
+    match refusal {
+        EditRefusal::SequenceLower | EditRefusal::SequenceEqual => {
+            f.write_str("; ")?;
+            tell_stands(stands, f)
+        }
+        _ => Ok(()),
+    }
+}
+
 fn tell_answer<W: fmt::Write>(answer: Answer, f: &mut fmt::Formatter<W>) -> fmt::Result {
     match answer {
         Answer::Begun => f.write_str("ok: a new job, with no code and no rows"),
@@ -98,6 +146,11 @@ fn tell_answer<W: fmt::Write>(answer: Answer, f: &mut fmt::Formatter<W>) -> fmt:
             f,
             "none clause {clause}: no length up to 2000 m passes"
         ),
+        Answer::Edited(stands) => {
+            f.write_str("ok: ")?;
+            tell_stands(stands, f)
+        }
+        Answer::EditRefused { refusal, stands } => tell_edit_refused(refusal, stands, f),
         Answer::Refused(refusal) => {
             let number = refusal.number();
             write!(f, "refused {number}: {refusal}")

@@ -17,6 +17,7 @@ returns c =
     record {
       outcome = inl (record { rows = c .replace-rows .result; bound = c .args .bound; clause = c .in-Ok .table .clause }, lawful, refl, same, refl, c .in-Ok .ensures tt .3, ap Table count);
       rows = ap vec-items (c .replace-rows .ensures .after) ∙ c .new .ensures .items;
+      profile = refl;
       irc = refl;
       choice = refl;
     }
