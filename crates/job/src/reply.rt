@@ -135,7 +135,7 @@ fn tell_edit_refused<W: fmt::Write>(
 
 fn tell_answer<W: fmt::Write>(answer: Answer, f: &mut fmt::Formatter<W>) -> fmt::Result {
     match answer {
-        Answer::Begun => f.write_str("ok: a new job, with no code and no rows"),
+        Answer::Begun => f.write_str("ok: a new job: no pegs, no fixed levels, no code"),
         Answer::Road(asked) => tell_road(asked, f),
         Answer::Rows(count) => write!(f, "ok: rows for the next table: {count}"),
         Answer::Table(count) => write!(f, "ok: rows in the length table: {count}"),

@@ -1,9 +1,10 @@
 #!/usr/bin/env python3
-"""Writes the cases of crates/rules_cases: calls of the job language with the answers that they should have.
+"""Writes the cases of crates/cases: calls of the job language with the answers that they should have.
 
-The answers are worked out here from docs/RULES.md in exact whole numbers, and never from what the program says.
-Run from the repository's root: tools/rules_cases.py > crates/rules_cases/stdin
+The answers are worked out here from docs/ in exact whole numbers, and never from what the program says.
+Run from the repository's root: tools/cases.py > crates/cases/stdin
 """
+import random
 from itertools import product
 
 SPEEDS = {0: [(100, 80), (80, 65), (50, 40), (40, 30)], 1: [(80, 65), (65, 50), (40, 30), (30, 20)],
@@ -212,6 +213,62 @@ def tables():
     say('grade 0 0 1000 50001', 'ok clause 40')
 
 
+class Site:
+    """Pegs and fixed levels as the rules say: each slot remembers its highest accepted sequence number."""
+
+    def __init__(self):
+        self.pegs, self.fixed = {}, {}
+
+    def edit(self, word, number, sequence, *figures):
+        slots, most, name = (self.pegs, 39, 'peg') if word in ('place', 'lift') else (self.fixed, 15, 'fixed level')
+        last, held = slots.get(number, (0, None))
+        refusal = (1 if number > most else 2 if sequence == 0 else 3 if figures and figures[0] > 10_000
+                   else 4 if any(y > 9_000_000 for y in figures[1:]) else 5 if word == 'fix' and figures[1] > figures[2]
+                   else 20 if sequence < last else 21 if sequence == last else None)
+        if refusal is None:
+            held = figures or None
+            slots[number] = (sequence, held)
+        stands = (f'{name} {number} is absent' if held is None else
+                  f'peg {number} stands at station {held[0]}, level {held[1]}' if name == 'peg' else
+                  f'fixed level {number} asks {held[1]} to {held[2]} at station {held[0]}')
+        call = ' '.join(map(str, (word, number, sequence) + figures))
+        if refusal is None:
+            say(call, f'ok: {stands}')
+        elif refusal >= 20:
+            why = {20: 'a newer edit stands: this one came late', 21: 'an edit with this sequence number stands already'}[refusal]
+            say(call, f'refused {refusal}: {why}; {stands}')
+        else:
+            say(call, f'refused {refusal}')
+
+
+def edits():
+    """The story of peg 7; each refusal at its edge; and edits that arrive late, twice and out of order."""
+    site = Site()
+    site.edit('place', 7, 5, 500, 120_000)
+    site.edit('lift', 7, 3)
+    site.edit('lift', 7, 5)
+    site.edit('lift', 7, 6)
+    site.edit('place', 7, 4, 510, 121_000)
+    site.edit('lift', 12, 1)
+    for number, sequence, figures in ((39, 1, (10_000, 9_000_000)), (40, 0, (10_001, 9_000_001)), (0, 0, (10_001, 9_000_001)),
+                                      (0, 1, (10_001, 9_000_001)), (0, 1, (10_000, 9_000_001)), (1, 4294967295, (0, 0)), (1, 4294967295, (0, 1))):
+        site.edit('place', number, sequence, *figures)
+    for number, sequence, figures in ((15, 1, (10_000, 9_000_000, 9_000_000)), (16, 0, (10_001, 2, 1)), (0, 0, (10_001, 2, 1)), (0, 1, (10_001, 9_000_001, 1)),
+                                      (0, 1, (1, 9_000_001, 1)), (0, 1, (1, 1, 9_000_001)), (0, 1, (1, 2, 1)), (0, 1, (1, 2, 2))):
+        site.edit('fix', number, sequence, *figures)
+    for word in ('lift', 'clear'):
+        site.edit(word, 40 if word == 'lift' else 16, 1)
+        site.edit(word, 0, 0)
+    dice = random.Random(7)
+    for _ in range(400):
+        word = dice.choice(('place', 'place', 'lift', 'fix', 'fix', 'clear'))
+        number, sequence = dice.randrange(6), dice.randrange(1, 40)
+        station, low, high = dice.randrange(10_001), dice.randrange(4_500_000), 4_500_000 + dice.randrange(4_500_000)
+        site.edit(word, number, sequence, *{'place': (station, low), 'fix': (station, low, high)}.get(word, ()))
+    say('new', 'ok')
+    say('lift 7 1', 'ok: peg 7 is absent')
+
+
 def lines():
     """Lines that are no call change nothing and are told."""
     say('new', 'ok')
@@ -223,7 +280,7 @@ def lines():
     say('use table irc', 'not understood')
     say('use irc', 'ok')
     for line in ('slope 0 0 10 0', 'grade', 'grade 0 0 10', 'grade 0 0 10 0 0', 'grade 0 0 10 -1', 'grade 0 0 10 +1', 'grade 0 0 10 1.0',
-                 'grade 0 0 10 4294967296', 'grade 0 0 10 x', 'Grade 0 0 10 0', 'use', 'use irc irc', 'use code', 'new 1', 'row 0 1 2', 'table 1'):
+                 'grade 0 0 10 4294967296', 'grade 0 0 10 x', 'Grade 0 0 10 0', 'use', 'use irc irc', 'use code', 'new 1', 'row 0 1 2', 'table 1', 'place 1 2 3', 'lift 1', 'fix 1 2 3 4', 'clear 1 2 3'):
         say(line, 'not understood')
     say('grade 0 0 10 0', 'ok clause 0')
     say('  grade\t0 000 10 0  # the same', 'ok clause 0')
@@ -239,7 +296,7 @@ def lines():
     say('row 1 10 20 30', 'ok: rows for the next table: 1')
 
 
-for part in (roads, gradients, worked, figures, tables, lines):
+for part in (roads, gradients, worked, figures, tables, edits, lines):
     say('new', 'ok')
     say('irc 0 0 0 1 0', 'ok')
     say('use irc', 'ok')
