@@ -18,12 +18,8 @@ use Rattle.pegs.specs.Slots.{untouched}
 use Rattle.pegs.specs.declared.edit.Edit.{Edit}
 use Rattle.pegs.specs.declared.slot.Slot.{Slot}
 use Rattle.profile.specs.Entries.{entries-from}
+use Rattle.profile.proofs.Kept.{nothing-held}
 use Rattle.profile.proofs.Standing.{Standing, all-before, none-standing}
-
--- an option without a value
-pub nothing-held : {V : Type 0} (o : Option V) → isSome o ≡ false → o ≡ None
-nothing-held None e = refl
-nothing-held (Some x) e = let z : _≡_ {A = ℕ} 0 1 = cc in absurd (omega arith)
 
 -- an untouched slot adds no entry, an edited one adds its own
 no-entry : {V : Type 0} (edit : ℕ → ℕ → Option V → Edit) (k : ℕ) (s : Slot V) (ss : List (Slot V)) → s .last ≡ 0 → entries-from edit k (s ∷ ss) ≡ entries-from edit (suc k) ss

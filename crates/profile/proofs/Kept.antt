@@ -13,6 +13,7 @@ use Rattle.std.specs.declared.option.Option.{Option}
 use Rattle.std.specs.declared.option.Option.the-variants.{Some, None}
 use Rattle.std.specs.declared.result.Result.{Result}
 use Rattle.std.specs.declared.result.Result.the-variants.{Ok, Err}
+use Rattle.book.specs.Sound.{Sound}
 use Rattle.pegs.specs.Edits.{Well-formed}
 use Rattle.pegs.specs.Slots.{untouched}
 use Rattle.pegs.specs.Tables.{Edited, fixed-slot, no-tables, peg-slot, written}
@@ -155,3 +156,33 @@ parts t s = (
     ),
   ),
 )
+
+-- an option that is empty has no value
+none-held : {V : Type 0} (o : Option V) → o ≡ None → isSome o ≡ false
+none-held o e = ap isSome e
+
+-- what is read from a book is sound in a profile's own words, and a profile's tables are sound in the book's
+pub from-book : (t : Tables) → Sound t → Tables-sound t
+from-book t s = record {
+  forty = s .peg-count;
+  sixteen = s .fixed-count;
+  pegs = λ n. record { fine = s .peg-good n; fit = s .peg-fits n; untouched-empty = λ z. none-held (peg-slot t n .held) (s .peg-never n z) };
+  fixed = λ n. record { fine = s .fixed-good n; fit = s .fixed-fits n; untouched-empty = λ z. none-held (fixed-slot t n .held) (s .fixed-never n z) };
+}
+
+-- an option without a value
+pub nothing-held : {V : Type 0} (o : Option V) → isSome o ≡ false → o ≡ None
+nothing-held None e = refl
+nothing-held (Some x) e = let z : _≡_ {A = ℕ} 0 1 = cc in absurd (omega arith)
+
+pub to-book : (t : Tables) → Tables-sound t → Sound t
+to-book t s = record {
+  peg-count = s .forty;
+  peg-fits = λ n. s .pegs n .fit;
+  peg-never = λ n z. nothing-held (peg-slot t n .held) (s .pegs n .untouched-empty z);
+  peg-good = λ n. s .pegs n .fine;
+  fixed-count = s .sixteen;
+  fixed-fits = λ n. s .fixed n .fit;
+  fixed-never = λ n z. nothing-held (fixed-slot t n .held) (s .fixed n .untouched-empty z);
+  fixed-good = λ n. s .fixed n .fine;
+}

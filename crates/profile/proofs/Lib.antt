@@ -1,3 +1,4 @@
+pub mod Answered
 pub mod AnyOrder
 pub mod BookStands
 pub mod Kept

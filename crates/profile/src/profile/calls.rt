@@ -4,8 +4,18 @@ ghost use mathlib.Core.List.{List};
 ghost use Rattle.pegs.specs.Tables.{fixed-slot, peg-slot};
 ghost use Rattle.profile.specs.History.{Event, Run};
 ghost use Rattle.profile.specs.Law.{Any-order, As-edited};
+ghost use Rattle.profile.specs.Reading.{Book-read, Fault-told, Is-book, Read-back};
 ghost use Rattle.profile.specs.Steps.{Applied, New};
+ghost use Rattle.book.specs.Book.{encode};
+ghost use Rattle.book.specs.Writing.{Writes};
+ghost use Rattle.std.specs.Results.{Cases};
+ghost use Prim.Native.Nat.{_<_, _≤_};
+ghost use lib.ListN.{length};
 use crate::profile::Profile;
+use book::fault::BookFault;
+use book::fault::TooShort;
+use book::reading::read;
+use book::writing::write;
 use pegs::edit::Edit;
 use pegs::edit::EditRefusal;
 use pegs::peg::FixedLevel;
@@ -31,6 +41,31 @@ impl Profile {
         self.tables.apply(edit)?;
         self.fitted = None;
         Ok(())
+    }
+
+    // Reads a book in place of every peg, fixed level and remembered number, or tells the book's first fault.
+    pub fn read_book(&mut self, bytes: &[u8]) -> Result<(), BookFault>
+        ensures step { λ r. ⌜ Book-read (now (bytes .entry)) (now (self .entry)) (now (self .exit)) r ⌝ }
+        ensures back { λ r. ⌜ Read-back (now (bytes .entry)) (now (self .exit)) r ⌝ }
+        ensures told { λ r. ⌜ Fault-told (now (bytes .entry)) r ⌝ }
+    {
+        match read(bytes) {
+            Ok(tables) => {
+                self.tables = tables;
+                self.fitted = None;
+                Ok(())
+            }
+            Err(fault) => Err(fault),
+        }
+    }
+
+    // Writes the profile's book at the front of a buffer and tells its length, at most 795 bytes.
+    pub fn write_book(&self, out: &mut [u8]) -> Result<usize, TooShort>
+        ensures writes { λ r. ⌜ Writes (now (out .entry)) (now (self .entry) .tables) (now (out .exit)) r ⌝ }
+        ensures book { λ _. ⌜ Is-book (encode (now (self .entry) .tables)) (now (self .entry) .tables) ⌝ }
+        ensures short { λ r. ⌜ Cases r (λ n. n ≤ 795) (λ _. length (now (out .entry)) < 795) ⌝ }
+    {
+        write(out, &self.tables)
     }
 
     // The peg of this number, if it is in force: as its highest-numbered edit since the last accepted book said.

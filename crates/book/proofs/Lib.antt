@@ -1,0 +1,9 @@
+pub mod Groups
+pub mod Apart
+pub mod Paths
+pub mod Entries
+pub mod Slots
+pub mod Laws
+pub mod Once
+pub mod Writes
+pub mod Sizes
