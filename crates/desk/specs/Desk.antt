@@ -2,13 +2,15 @@
 use mathlib.Core.Path.{_≡_}
 use mathlib.Core.List.{List, [], _∷_, _++_}
 use mathlib.Core.Logic.{_⊎_}
-use Prim.Native.Nat.{ℕ, _%_, _≤_}
+use Prim.Native.Nat.{ℕ, _%_, _<_, _≤_}
 use lib.IntN.{ℤ}
 use lib.ListN.{length}
 use Rattle.std.specs.Of.Vec.{vec-items}
 use Rattle.std.specs.Options.{Cases as BySome}
 use Rattle.std.specs.Results.{Cases}
+use Rattle.std.specs.declared.alloc.Global.{Global}
 use Rattle.std.specs.declared.option.Option.the-variants.{None, Some}
+use Rattle.std.specs.declared.vec.Vec.{Vec}
 use Rattle.std.specs.declared.result.Result.{Result}
 use Rattle.std.specs.declared.result.Result.the-variants.{Ok, Err}
 use Rattle.pegs.specs.Tables.{fixed-slot, peg-slot}
@@ -16,6 +18,9 @@ use Rattle.pegs.specs.declared.edit.Edit.{Edit}
 use Rattle.pegs.specs.declared.edit.Edit.the-variants as edit
 use Rattle.pegs.specs.declared.edit.EditRefusal.{EditRefusal}
 use Rattle.pegs.specs.declared.tables.Tables.{Tables}
+use Rattle.book.specs.Book.{encode}
+use Rattle.book.specs.declared.fault.BookFault.{BookFault}
+use Rattle.profile.specs.Reading.{Book-read}
 use Rattle.profile.specs.Steps.{Applied, New}
 use Rattle.rules.specs.Irc.{irc-curve, irc-grade, Irc-refused}
 use Rattle.rules.specs.Points.{Points-refused, Points-sound, rise, run}
@@ -181,6 +186,27 @@ pub record Edit-made (d : Desk) (e : Edit) (d′ : Desk) (a : Answer) : Type 0 w
   pub table : d′ .table ≡ d .table
   pub choice : d′ .choice ≡ d .choice
 
+-- the bytes of the book, where the buffer is long enough for them
+abbrev pub Book-told : Tables → ℕ → Answer → Type 0
+Book-told t size a =
+    ((v : Vec ℕ Global) × (a ≡ answer.Book v) × (vec-items v ≡ encode t) × (length (encode t) ≤ size))
+    ⊎ ((a ≡ answer.BookTooShort) × (size < length (encode t)))
+
+-- a book was accepted, or its first fault is told
+abbrev pub read-answer : Result (Unit {0}) BookFault → Answer
+read-answer (Ok u) = answer.BookRead
+read-answer (Err x) = answer.BookRefused x
+
+-- the profile moves by the book, and all else stays
+pub record Read-made (d : Desk) (bytes : List ℕ) (d′ : Desk) (a : Answer) : Type 0 where
+  pub reply : Result (Unit {0}) BookFault
+  pub profile : Book-read bytes (d .profile) (d′ .profile) reply
+  pub told : a ≡ read-answer reply
+  pub irc : d′ .irc ≡ d .irc
+  pub rows : d′ .rows ≡ d .rows
+  pub table : d′ .table ≡ d .table
+  pub choice : d′ .choice ≡ d .choice
+
 -- what a call does to the desk, and what it answers
 abbrev pub Made : Desk → Call → Desk → Answer → Type 0
 Made d call.New d′ a = Empty d′ × (a ≡ answer.Begun)
@@ -190,3 +216,5 @@ Made d (call.Table bound clause) d′ a = Table-made d bound clause d′ a
 Made d (call.Use c) d′ a = Chosen d c d′ a
 Made d (call.Ask q) d′ a = Inquired d q a × (d′ ≡ d)
 Made d (call.Edit e) d′ a = Edit-made d e d′ a
+Made d (call.Book size) d′ a = Book-told (d .profile .tables) size a × (d′ ≡ d)
+Made d (call.Read v) d′ a = Read-made d (vec-items v) d′ a

@@ -1,5 +1,6 @@
 // The answers to calls.
 use crate::call::Choice;
+use book::fault::BookFault;
 use pegs::edit::EditRefusal;
 use pegs::peg::FixedLevel;
 use pegs::peg::Peg;
@@ -27,7 +28,7 @@ pub enum Stands {
     },
 }
 
-#[derive(Clone, Copy)]
+#[derive(Drop)]
 pub enum Answer {
     Begun,
     Road(Asked),
@@ -49,6 +50,10 @@ pub enum Answer {
         refusal: EditRefusal,
         stands: Stands,
     },
+    Book(Vec<u8>),
+    BookTooShort,
+    BookRead,
+    BookRefused(BookFault),
     Refused(Refusal),
     Missing(Missing),
 }

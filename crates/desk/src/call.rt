@@ -33,7 +33,7 @@ pub enum Inquiry {
     },
 }
 
-#[derive(Clone, Copy)]
+#[derive(Drop)]
 pub enum Call {
     New,
     Irc(RoadFigures),
@@ -42,4 +42,6 @@ pub enum Call {
     Use(Choice),
     Ask(Inquiry),
     Edit(Edit),
+    Book { size: u32 },
+    Read(Vec<u8>),
 }

@@ -3,7 +3,11 @@ ghost use mathlib.Core.Path.{_≡_};
 ghost use Rattle.std.specs.Of.Vec.{vec-items};
 ghost use Rattle.std.specs.Options.{Cases as BySome};
 ghost use Rattle.std.specs.Results.{Cases};
-ghost use Rattle.desk.specs.Desk.{Answers, As-it-was, Asked-by, Chosen, Edit-made, Empty, Inquired, Irc-made, Made, Row-added, Table-made, There, stands-of, told-of};
+ghost use Rattle.std.specs.Vec.{made};
+ghost use Rattle.book.specs.Book.{encode};
+ghost use lib.ListN.{length};
+ghost use Prim.Native.Nat.{_<_, _≤_};
+ghost use Rattle.desk.specs.Desk.{Answers, As-it-was, Asked-by, Book-told, Chosen, Edit-made, Empty, Inquired, Irc-made, Made, Read-made, Row-added, Table-made, There, stands-of, told-of};
 ghost use Rattle.std.specs.declared.result.Result.the-variants.{Ok, Err};
 ghost use Rattle.desk.specs.declared.answer.Missing.the-variants as missing;
 use crate::answer::Answer;
@@ -12,6 +16,7 @@ use crate::answer::Stands;
 use crate::call::Call;
 use crate::call::Choice;
 use crate::call::Inquiry;
+use book::fault::TooShort;
 use pegs::edit::Edit;
 use profile::profile::Profile;
 use rules::code::RoadCode;
@@ -90,6 +95,20 @@ fn told(answer: Result<Answer, Refusal>) -> Answer
     match answer {
         Ok(answer) => answer,
         Err(refusal) => Answer::Refused(refusal),
+    }
+}
+
+// The bytes of a profile's book, written by way of a buffer.
+fn copy_book(
+    heap: Global,
+    profile: &Profile,
+    out: &mut [u8],
+) -> Result<Result<Vec<u8>, TooShort>, AllocError>
+    ensures { λ r. ⌜ made r (λ x. Cases x (λ v. (vec-items v ≡ encode (now (profile .entry) .tables)) × (length (encode (now (profile .entry) .tables)) ≤ length (now (out .entry)))) (λ _. (length (now (out .entry)) < length (encode (now (profile .entry) .tables))) × (length (now (out .entry)) < 795))) ⌝ }
+{
+    match profile.write_book(out) {
+        Ok(count) => Ok(Ok(Vec::from_slice(heap, &out[0..count])?)),
+        Err(short) => Ok(Err(short)),
     }
 }
 
@@ -285,6 +304,28 @@ impl Desk {
         }
     }
 
+    // The book in a buffer of so many bytes. No book has more than 795, so no more are set aside.
+    fn book(&self, heap: Global, size: u32) -> Result<Answer, AllocError>
+        ensures { λ r. ⌜ made r (λ a. Book-told (now (self .entry) .profile .tables) size a) ⌝ }
+    {
+        let mut buffer = [0u8; 795];
+        let room = size.min(795) as usize;
+        match copy_book(heap, &self.profile, &mut buffer[0..room]) {
+            Ok(Ok(bytes)) => Ok(Answer::Book(bytes)),
+            Ok(Err(_)) => Ok(Answer::BookTooShort),
+            Err(error) => Err(error),
+        }
+    }
+
+    fn read(&mut self, bytes: &[u8]) -> Answer
+        ensures { λ a. ⌜ Read-made (now (self .entry)) (now (bytes .entry)) (now (self .exit)) a ⌝ }
+    {
+        match self.profile.read_book(bytes) {
+            Ok(()) => Answer::BookRead,
+            Err(fault) => Answer::BookRefused(fault),
+        }
+    }
+
     // Makes the call. Where memory for a row is wanting, the desk stays as it was.
     pub fn make(&mut self, heap: Global, call: Call) -> Result<Answer, AllocError>
         ensures { λ r. ⌜ Cases r (λ a. Made (now (self .entry)) call (now (self .exit)) a) (λ _. As-it-was (now (self .entry)) (now (self .exit))) ⌝ }
@@ -300,6 +341,8 @@ impl Desk {
             Call::Use(choice) => Ok(self.choose(choice)),
             Call::Ask(inquiry) => Ok(self.inquire(inquiry)),
             Call::Edit(edit) => Ok(self.edit(edit)),
+            Call::Book { size } => self.book(heap, size),
+            Call::Read(bytes) => Ok(self.read(bytes.as_slice())),
         }
     }
 }

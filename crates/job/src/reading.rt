@@ -1,5 +1,6 @@
 // A call, read from the words of a line.
 use crate::reply::Misread;
+use crate::words::bytes_of;
 use crate::words::figures;
 use desk::call::Call;
 use desk::call::Choice;
@@ -8,6 +9,8 @@ use pegs::edit::Edit;
 use rules::point::Point;
 use rules::road::RoadFigures;
 use rules::table::Row;
+use std::alloc::AllocError;
+use std::alloc::Global;
 
 fn read_choice<'a>(names: &[&'a str]) -> Result<Choice, Misread<'a>> {
     match names {
@@ -90,8 +93,43 @@ fn read_edit<'a>(name: &'a str, rest: &[&'a str]) -> Result<Edit, Misread<'a>> {
     }
 }
 
+// The size of the buffer for a book: 795 bytes hold every book.
+fn read_size<'a>(rest: &[&'a str]) -> Result<u32, Misread<'a>> {
+    if rest.is_empty() {
+        return Ok(795);
+    }
+    let [size] = figures::<1>(rest)?;
+    Ok(size)
+}
+
+// A book to read, as one word of hexadecimal.
+fn read_bytes<'a>(heap: Global, rest: &[&'a str]) -> Result<Result<Call, Misread<'a>>, AllocError> {
+    let [word] = rest else {
+        return Ok(Err(Misread::Count {
+            wanted: 1,
+            given: rest.len(),
+        }));
+    };
+    match bytes_of(heap, word)? {
+        Some(bytes) => Ok(Ok(Call::Read(bytes))),
+        None => Ok(Err(Misread::NoBytes(word))),
+    }
+}
+
+// The call that a line makes; a book's bytes are set aside for it.
+pub fn call_of<'a>(
+    heap: Global,
+    name: &'a str,
+    rest: &[&'a str],
+) -> Result<Result<Call, Misread<'a>>, AllocError> {
+    match name {
+        "read" => read_bytes(heap, rest),
+        _ => Ok(read_call(name, rest)),
+    }
+}
+
 // The call that the words make: its name, then its figures.
-pub fn read_call<'a>(name: &'a str, rest: &[&'a str]) -> Result<Call, Misread<'a>> {
+fn read_call<'a>(name: &'a str, rest: &[&'a str]) -> Result<Call, Misread<'a>> {
     match name {
         "new" => {
             let [] = figures::<0>(rest)?;
@@ -121,6 +159,9 @@ pub fn read_call<'a>(name: &'a str, rest: &[&'a str]) -> Result<Call, Misread<'a
             Ok(Call::Table { bound, clause })
         }
         "use" => Ok(Call::Use(read_choice(rest)?)),
+        "book" => Ok(Call::Book {
+            size: read_size(rest)?,
+        }),
         "grade" | "curve" | "shortest" => Ok(Call::Ask(read_inquiry(name, rest)?)),
         _ => Ok(Call::Edit(read_edit(name, rest)?)),
     }

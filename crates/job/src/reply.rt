@@ -1,4 +1,7 @@
 // What a line comes to, told in one line: stable first words, then prose for a person.
+use book::fault::BookFault;
+use book::fault::BookFaultDisplay;
+use book::fault::Layer;
 use desk::answer::Answer;
 use desk::answer::Missing;
 use desk::answer::Stands;
@@ -19,10 +22,11 @@ pub enum Misread<'a> {
     NoFigure(&'a str),
     Count { wanted: usize, given: usize },
     UnknownCode(&'a str),
+    NoBytes(&'a str),
 }
 
 // The answer to a line's call, or why it is no call.
-#[derive(Clone, Copy)]
+#[derive(Drop)]
 pub enum Reply<'a> {
     Answer(Answer),
     Misread(Misread<'a>),
@@ -38,6 +42,7 @@ fn tell_misread<W: fmt::Write>(misread: Misread<'_>, f: &mut fmt::Formatter<W>) 
             f,
             "{wanted} figures are wanted and {given} are given"
         ),
+        Misread::NoBytes(word) => write!(f, "'{word}' is no row of bytes in hexadecimal"),
         Misread::UnknownCode(word) => write!(
             f,
             "'{word}' is no code: use irc, table, irc table or table irc"
@@ -133,8 +138,38 @@ fn tell_edit_refused<W: fmt::Write>(
     }
 }
 
-fn tell_answer<W: fmt::Write>(answer: Answer, f: &mut fmt::Formatter<W>) -> fmt::Result {
-    match answer {
+// The bytes of a book in hexadecimal.
+fn tell_book<W: fmt::Write>(bytes: &[u8], f: &mut fmt::Formatter<W>) -> fmt::Result {
+    let count = bytes.len();
+    write!(f, "ok {count} ")?;
+    for b in bytes {
+        write!(f, "{b:02x}")?;
+    }
+    Ok(())
+}
+
+fn layer_words(layer: Layer) -> &'static str {
+    match layer {
+        Layer::Number => "number",
+        Layer::Entry => "entry",
+        Layer::Book => "book",
+    }
+}
+
+// The first fault of a book, its place and its layer.
+fn tell_fault<W: fmt::Write>(fault: BookFault, f: &mut fmt::Formatter<W>) -> fmt::Result {
+    let number = fault.number();
+    let place = fault.place();
+    let layer = layer_words(fault.layer());
+    write!(f, "refused {number} byte {place} layer {layer}: {fault}")
+}
+
+fn tell_answer<W: fmt::Write>(answer: &Answer, f: &mut fmt::Formatter<W>) -> fmt::Result {
+    match *answer {
+        Answer::Book(ref bytes) => tell_book(bytes.as_slice(), f),
+        Answer::BookTooShort => f.write_str("refused 10: the buffer is shorter than the book"),
+        Answer::BookRead => f.write_str("ok: the book stands in place of all before it"),
+        Answer::BookRefused(fault) => tell_fault(fault, f),
         Answer::Begun => f.write_str("ok: a new job: no pegs, no fixed levels, no code"),
         Answer::Road(asked) => tell_road(asked, f),
         Answer::Rows(count) => write!(f, "ok: rows for the next table: {count}"),
@@ -161,9 +196,9 @@ fn tell_answer<W: fmt::Write>(answer: Answer, f: &mut fmt::Formatter<W>) -> fmt:
 
 pub impl<'a> fmt::Display for Reply<'a> as ReplyDisplay {
     fn fmt<W: fmt::Write>(&self, f: &mut fmt::Formatter<W>) -> fmt::Result {
-        match *self {
+        match self {
             Reply::Answer(answer) => tell_answer(answer, f),
-            Reply::Misread(misread) => tell_misread(misread, f),
+            Reply::Misread(misread) => tell_misread(*misread, f),
         }
     }
 }

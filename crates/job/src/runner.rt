@@ -2,7 +2,7 @@
 ghost use Rattle.std.specs.Results.{Cases};
 ghost use Rattle.desk.specs.Desk.{As-it-was};
 ghost use Rattle.job.specs.Runner.{Moved};
-use crate::reading::read_call;
+use crate::reading::call_of;
 use crate::reply::Misread;
 use crate::reply::Reply;
 use crate::words::words_of;
@@ -25,7 +25,7 @@ pub fn answer_line<'a>(
     let [name, rest @ ..] = words.as_slice() else {
         return Ok(None);
     };
-    match read_call(name, rest) {
+    match call_of(heap, name, rest)? {
         Ok(call) => Ok(Some(Reply::Answer(desk.make(heap, call)?))),
         Err(misread) => Ok(Some(Reply::Misread(misread))),
     }
