@@ -241,6 +241,127 @@ class Site:
             say(call, f'refused {refusal}')
 
 
+def number(n):
+    """A number in groups of seven bits, lowest first."""
+    groups = []
+    while n >= 128:
+        groups.append(128 + n % 128)
+        n //= 128
+    return bytes(groups + [n])
+
+
+class Fault(Exception):
+    pass
+
+
+def take(book, at):
+    """The number at a place and the place after it, or the fault of the number's layer."""
+    value, k = 0, 0
+    while True:
+        if at + k >= len(book):
+            raise Fault(11, at, 'number')
+        value += (book[at + k] % 128) << (7 * k)
+        if book[at + k] < 128:
+            break
+        k += 1
+        if k == 5:
+            raise Fault(11, at, 'number')
+    if (k and book[at + k] == 0) or value > 4294967295:
+        raise Fault(11, at, 'number')
+    return value, at + k + 1
+
+
+def read(book):
+    """The first fault of a book, or None."""
+    def entry(at, most, low, figures):
+        n, end = take(book, at)
+        if n > most:
+            raise Fault(1, at, 'entry')
+        if n < low:
+            raise Fault(12, at, 'entry')
+        at = end
+        sequence, end = take(book, at)
+        if sequence == 0:
+            raise Fault(2, at, 'entry')
+        at = end
+        mark, end = take(book, at)
+        if mark > 1:
+            raise Fault(12, at, 'entry')
+        last = 0
+        for k in range(figures if mark else 0):
+            at = end
+            y, end = take(book, at)
+            if y > (9_000_000 if k else 10_000):
+                raise Fault(4 if k else 3, at, 'entry')
+            if k == 2 and y < last:
+                raise Fault(5, at, 'entry')
+            last = y
+        return n, end
+
+    try:
+        form, at = take(book, 0)
+        if form != 1:
+            raise Fault(12, 0, 'book')
+        for most, figures in ((39, 2), (15, 3)):
+            count, end = take(book, at)
+            if count > most + 1:
+                raise Fault(12, at, 'book')
+            at, low = end, 0
+            for _ in range(count):
+                n, at = entry(at, most, low, figures)
+                low = n + 1
+        if at < len(book):
+            raise Fault(12, at, 'book')
+    except Fault as fault:
+        return fault.args
+    return None
+
+
+def books():
+    """A small book cut at every byte, with every number of it changed, and with numbers in other forms."""
+    for call in ('place 0 3 500 120000', 'place 7 300 10000 9000000', 'lift 9 4', 'fix 1 5 620 118000 118050', 'clear 4 6'):
+        say(call, 'ok')
+    small = [1, 3, 0, 3, 1, 500, 120000, 7, 300, 1, 10000, 9000000, 9, 4, 0, 2, 1, 5, 1, 620, 118000, 118050, 4, 6, 0]
+    whole = b''.join(map(number, small))
+    say('book', f'ok {len(whole)} {whole.hex()}')
+    say(f'book {len(whole)}', f'ok {len(whole)} {whole.hex()}')
+    say(f'book {len(whole) - 1}', 'refused 10')
+    say('book 0', 'refused 10')
+    say('book 4294967295', f'ok {len(whole)} {whole.hex()}')
+
+    def offer(book):
+        fault = read(book)
+        say(f'read {book.hex()}', 'ok' if fault is None else 'refused {} byte {} layer {}'.format(*fault))
+        if fault is None:
+            say('book', f'ok {len(book)} {book.hex()}')
+            say(f'read {whole.hex()}', 'ok')
+        else:
+            say('book', f'ok {len(whole)} {whole.hex()}')
+
+    for k in range(1, len(whole)):
+        offer(whole[:k])
+    for k in range(len(small)):
+        for n in (0, 1, 2, 3, 7, 8, 15, 16, 17, 39, 40, 41, 10_000, 10_001, 118_049, 118_051, 9_000_000, 9_000_001, 4294967295):
+            offer(b''.join(map(number, small[:k] + [n] + small[k + 1:])))
+        long = number(small[k])
+        for odd in (long[:-1] + bytes([long[-1] | 128, 0]), bytes([255] * 4 + [16]), bytes([255] * 5 + [1]), bytes([128] * 5)):
+            offer(b''.join(map(number, small[:k])) + odd + b''.join(map(number, small[k + 1:])))
+    offer(whole + bytes([0]))
+    offer(whole + bytes([255]))
+    for text in ('010100010100a08d0600', '8100', '00', '0100', '010000'):
+        offer(bytes.fromhex(text))
+    say('read 010', 'not understood')
+    say('read 0g', 'not understood')
+    say('read', 'not understood')
+    # a peg that a book replaced is edited on from the book's number
+    say(f'read {whole.hex()}', 'ok')
+    say('place 7 300 1 1', 'refused 21')
+    say('place 7 299 1 1', 'refused 20')
+    say('place 7 301 1 1', 'ok: peg 7 stands at station 1, level 1')
+    say('read 010000', 'ok')
+    say('lift 7 1', 'ok: peg 7 is absent')
+
+
 def edits():
     """The story of peg 7; each refusal at its edge; and edits that arrive late, twice and out of order."""
     site = Site()
@@ -296,7 +417,7 @@ def lines():
     say('row 1 10 20 30', 'ok: rows for the next table: 1')
 
 
-for part in (roads, gradients, worked, figures, tables, edits, lines):
+for part in (roads, gradients, worked, figures, tables, edits, books, lines):
     say('new', 'ok')
     say('irc 0 0 0 1 0', 'ok')
     say('use irc', 'ok')

@@ -22,6 +22,34 @@ pub more : (f n : ℕ) → 128 ≤ n → groups (suc f) n ≡ (128 + n % 128) �
 unfolding groups
 more f n h = rw (le-ltb n 128 h) refl
 
+-- how many bytes numbers of two groups and more take
+pub length-two : (n : ℕ) → 128 ≤ n → n < 16384 → 2 ≡ length (number n)
+length-two n h l = let k : n / 128 < 128 = omega arith in rw (more 4 n h, one 3 (n / 128) k) refl
+
+pub length-three : (n : ℕ) → 16384 ≤ n → n < 2097152 → 3 ≡ length (number n)
+length-three n h l =
+    let a : 128 ≤ n = omega arith in
+    let b : 128 ≤ n / 128 = omega arith in
+    let k : n / 128 / 128 < 128 = omega arith in
+    rw (more 4 n a, more 3 (n / 128) b, one 2 (n / 128 / 128) k) refl
+
+pub length-four : (n : ℕ) → 2097152 ≤ n → n < 268435456 → 4 ≡ length (number n)
+length-four n h l =
+    let a : 128 ≤ n = omega arith in
+    let b : 128 ≤ n / 128 = omega arith in
+    let d : 128 ≤ n / 128 / 128 = omega arith in
+    let k : n / 128 / 128 / 128 < 128 = omega arith in
+    rw (more 4 n a, more 3 (n / 128) b, more 2 (n / 128 / 128) d, one 1 (n / 128 / 128 / 128) k) refl
+
+pub length-five : (n : ℕ) → 268435456 ≤ n → n < 2 ^ 32 → 5 ≡ length (number n)
+length-five n h l =
+    let a : 128 ≤ n = omega arith in
+    let b : 128 ≤ n / 128 = omega arith in
+    let d : 128 ≤ n / 128 / 128 = omega arith in
+    let g : 128 ≤ n / 128 / 128 / 128 = omega arith in
+    let k : n / 128 / 128 / 128 / 128 < 128 = omega arith in
+    rw (more 4 n a, more 3 (n / 128) b, more 2 (n / 128 / 128) d, more 1 (n / 128 / 128 / 128) g, one 0 (n / 128 / 128 / 128 / 128) k) refl
+
 pub group : (f b m : ℕ) → b < 128 → 0 < m → groups (suc f) (b + 128 * m) ≡ (128 + b) ∷ groups f m
 group f b m h k =
     let d : (b + 128 * m) / 128 ≡ m = omega arith in
