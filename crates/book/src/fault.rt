@@ -92,7 +92,7 @@ const UNFIT: u8 = 12;
 
 impl Misfit {
     // The number by which the fault is told: an edit's, where an edit can have it too.
-    pub fn number(self) -> u8
+    pub(crate) fn number(self) -> u8
         ensures { λ r. ⌜ r ≡ misfit-number self ⌝ }
     {
         match self {
@@ -132,7 +132,7 @@ impl NumberKind {
 
 impl EntryFault {
     // The byte place of the number at fault.
-    pub fn place(self) -> usize
+    pub(crate) fn place(self) -> usize
         ensures { λ r. ⌜ r ≡ entry-place self ⌝ }
     {
         match self {
@@ -142,7 +142,7 @@ impl EntryFault {
     }
 
     // The layer in which the fault arose.
-    pub fn layer(self) -> Layer
+    pub(crate) fn layer(self) -> Layer
         ensures { λ r. ⌜ r ≡ entry-layer self ⌝ }
     {
         match self {
@@ -155,7 +155,7 @@ impl EntryFault {
     }
 
     // The number by which the fault is told.
-    pub fn number(self) -> u8
+    pub(crate) fn number(self) -> u8
         ensures { λ r. ⌜ r ≡ entry-fault-number self ⌝ }
     {
         match self {

@@ -20,6 +20,7 @@ use Rattle.pegs.specs.declared.edit.EditRefusal.{EditRefusal}
 use Rattle.pegs.specs.declared.tables.Tables.{Tables}
 use Rattle.book.specs.Book.{encode}
 use Rattle.book.specs.declared.fault.BookFault.{BookFault}
+use Rattle.book.specs.declared.fault.TooShort.{TooShort}
 use Rattle.profile.specs.Reading.{Book-read}
 use Rattle.profile.specs.Steps.{Applied, New}
 use Rattle.rules.specs.Irc.{irc-curve, irc-grade, Irc-refused}
@@ -190,7 +191,7 @@ pub record Edit-made (d : Desk) (e : Edit) (d′ : Desk) (a : Answer) : Type 0 w
 abbrev pub Book-told : Tables → ℕ → Answer → Type 0
 Book-told t size a =
     ((v : Vec ℕ Global) × (a ≡ answer.Book v) × (vec-items v ≡ encode t) × (length (encode t) ≤ size))
-    ⊎ ((a ≡ answer.BookTooShort) × (size < length (encode t)))
+    ⊎ ((short : TooShort) × (a ≡ answer.BookTooShort short) × (size < length (encode t)))
 
 -- a book was accepted, or its first fault is told
 abbrev pub read-answer : Result (Unit {0}) BookFault → Answer

@@ -1,6 +1,7 @@
 // The answers to calls.
 use crate::call::Choice;
 use book::fault::BookFault;
+use book::fault::TooShort;
 use pegs::edit::EditRefusal;
 use pegs::peg::FixedLevel;
 use pegs::peg::Peg;
@@ -51,7 +52,7 @@ pub enum Answer {
         stands: Stands,
     },
     Book(Vec<u8>),
-    BookTooShort,
+    BookTooShort(TooShort),
     BookRead,
     BookRefused(BookFault),
     Refused(Refusal),

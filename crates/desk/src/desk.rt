@@ -312,7 +312,7 @@ impl Desk {
         let room = size.min(795) as usize;
         match copy_book(heap, &self.profile, &mut buffer[0..room]) {
             Ok(Ok(bytes)) => Ok(Answer::Book(bytes)),
-            Ok(Err(_)) => Ok(Answer::BookTooShort),
+            Ok(Err(short)) => Ok(Answer::BookTooShort(short)),
             Err(error) => Err(error),
         }
     }

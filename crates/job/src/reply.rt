@@ -2,6 +2,7 @@
 use book::fault::BookFault;
 use book::fault::BookFaultDisplay;
 use book::fault::Layer;
+use book::fault::TooShortDisplay;
 use desk::answer::Answer;
 use desk::answer::Missing;
 use desk::answer::Stands;
@@ -167,7 +168,10 @@ fn tell_fault<W: fmt::Write>(fault: BookFault, f: &mut fmt::Formatter<W>) -> fmt
 fn tell_answer<W: fmt::Write>(answer: &Answer, f: &mut fmt::Formatter<W>) -> fmt::Result {
     match *answer {
         Answer::Book(ref bytes) => tell_book(bytes.as_slice(), f),
-        Answer::BookTooShort => f.write_str("refused 10: the buffer is shorter than the book"),
+        Answer::BookTooShort(short) => {
+            let number = short.number();
+            write!(f, "refused {number}: {short}")
+        }
         Answer::BookRead => f.write_str("ok: the book stands in place of all before it"),
         Answer::BookRefused(fault) => tell_fault(fault, f),
         Answer::Begun => f.write_str("ok: a new job: no pegs, no fixed levels, no code"),
