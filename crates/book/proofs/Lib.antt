@@ -7,4 +7,3 @@ pub mod Laws
 pub mod Once
 pub mod Writes
 pub mod Sizes
-pub mod Exact

@@ -1,7 +1,6 @@
 pub mod Book
 pub mod Faults
 pub mod Numbers
-pub mod Pairs
 pub mod Reading
 pub mod Sound
 pub mod Wanted

@@ -1,6 +1,6 @@
 // A profile's pegs and fixed levels as a book of bytes: reading one, and writing one.
 mod entry;
 pub mod fault;
-pub mod number;
+mod number;
 pub mod reading;
 pub mod writing;

@@ -2,7 +2,6 @@
 use Rattle.std.proofs.Common.{◌≡◌, ℕ, zero, suc, ◌^◌, ◌<◌, ◌≤◌, true, false, ◌⊎◌, List, [], ◌∷◌, length, get_or, set, replicate, is_some, Some, None, Ok, Err, Option, Result, sym, refl, ap, ◌∙◌, subst, ⊎_elim, arith, length-set, get_or-set_other, get_or-set_same}
 use Rattle.std.proofs.lemmas.Bool.{cases_eq}
 use Rattle.book.specs.Sound.{Sound}
-use Rattle.fitting.specs.declared.fitted.Fitted.{Fitted}
 use Rattle.pegs.specs.Edits.{WellFormed}
 use Rattle.pegs.specs.Slots.{untouched}
 use Rattle.pegs.specs.Tables.{Edited, fixed_slot, no_tables, peg_slot, written}
@@ -14,7 +13,7 @@ use Rattle.pegs.specs.declared.peg.Peg.{Peg}
 use Rattle.pegs.specs.declared.slot.Slot.{Slot}
 use Rattle.pegs.specs.declared.tables.Tables.{Tables}
 use Rattle.profile.specs.declared.profile.Profile.{Profile}
-use Rattle.profile.specs.Sound.{FixedFine, FixedFit, FixedUntouched, PegsFine, PegsFit, PegsUntouched, fits_here}
+use Rattle.profile.specs.Sound.{FixedFine, FixedFit, FixedUntouched, PegsFine, PegsFit, PegsUntouched}
 
 -- what holds of every slot of a table, and of the one that is written, holds after the writing
 pub kept_by_set : {V : Type 0} (P : Slot V → Type 0) (slots : List (Slot V)) (m : ℕ) (s : Slot V)
@@ -124,9 +123,9 @@ sound_of p = record {
 }
 
 -- the same fact by fact, as a profile keeps them
-pub parts : (t : Tables) (fitted : Option Fitted) → TablesSound t → fits_here t fitted ≡ true
-    → (length t.pegs ≡ 40) × ((length t.fixed ≡ 16) × (PegsFine t × (FixedFine t × (PegsFit t × (FixedFit t × (PegsUntouched t × (FixedUntouched t × ((fits_here t fitted ≡ true) × Unit {0}))))))))
-parts t fitted s here = (
+pub parts : (t : Tables) → TablesSound t
+    → (length t.pegs ≡ 40) × ((length t.fixed ≡ 16) × (PegsFine t × (FixedFine t × (PegsFit t × (FixedFit t × (PegsUntouched t × (FixedUntouched t × Unit {0})))))))
+parts t s = (
   s.forty,
   (
     s.sixteen,
@@ -138,7 +137,7 @@ parts t fitted s here = (
           (λ n. (s.pegs n).fit),
           (
             (λ n. (s.fixed n).fit),
-            ((λ n. (s.pegs n).untouched_empty), ((λ n. (s.fixed n).untouched_empty), (here, tt))),
+            ((λ n. (s.pegs n).untouched_empty), ((λ n. (s.fixed n).untouched_empty), tt)),
           ),
         ),
       ),

@@ -1,3 +1,2 @@
-// A profile: pegs and fixed levels as its edits and books left them, and the lengths that fit them.
+// A profile: pegs and fixed levels as its edits and books left them.
 pub mod profile;
-pub mod refusal;
