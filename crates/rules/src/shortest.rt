@@ -14,7 +14,7 @@ pub struct NoLength {
 
 // The shortest length that the code passes at the turn, or that there is none.
 pub fn shortest<C: RoadCode>(code: &C, turn: Turn) -> Result<Length, NoLength>
-    ensures { MatchResult result (λ l. ShortestPassing (curve_verdict code.now turn.bend) l.metres) (λ e. NonePasses (curve_verdict code.now turn.bend) × (e.clause ≡ curve_verdict code.now turn.bend 2000)) }
+    ensures { MatchResult result (λ l. ShortestPassing (C.curve_verdict code.now turn.bend) l.metres) (λ e. NonePasses (C.curve_verdict code.now turn.bend) × (e.clause ≡ C.curve_verdict code.now turn.bend 2000)) }
 {
     for step in 0..401u32 {
         let length = Length { metres: 5 * step };
