@@ -1,4 +1,6 @@
 // A profile's pegs and fixed levels as a book of bytes: reading one, and writing one.
+#![tactic(auto)]
+
 mod entry;
 pub mod fault;
 mod number;

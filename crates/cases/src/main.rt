@@ -1,5 +1,7 @@
 // Holds the answers to calls against the answers that they should have.
 // A line of input is a call, " => ", and what its answer must begin with. What differs is printed, and at the end the count.
+#![tactic(auto)]
+
 use desk::desk::Desk;
 use job::runner::answer_line;
 use std::alloc::{AllocError, Global};

@@ -1,4 +1,6 @@
 // Answers a job, one call to a line, from the file that is named or from standard input.
+#![tactic(auto)]
+
 use anyhow::anyhow;
 use desk::desk::Desk;
 use job::runner::answer_line;

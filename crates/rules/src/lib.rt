@@ -1,4 +1,6 @@
 // The road rules: grades, turns, lengths, and the codes that judge them.
+#![tactic(auto)]
+
 pub mod code;
 pub mod grade;
 pub mod irc;

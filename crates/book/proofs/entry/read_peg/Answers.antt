@@ -5,18 +5,18 @@ use Rattle.book.proofs.Entries.{in_level, peg_read}
 use Rattle.book.proofs.Paths.{misfit}
 use Rattle.book.proofs.entry.read_peg.Goals as goal
 
-pub returns-in-err-station : goal.returns-in-err-station
-returns-in-err-station c =
-    let p = err_from_is_err_and c.from-residual.result c.from-residual.ensures.1 in
+pub returns-in_err-station : goal.returns-in_err-station
+returns-in_err-station c =
+    let p = err_from_is_err_and c.from_residual.result c.from_residual.ensures.1 in
     rw (p.1, p.2)
-    (λ left lowest. misfit c.args.bytes.now c.args.at Pegs left lowest station c.requires c.in-err-station.field-0.0 c.in-err-station.ensures)
+    (λ left lowest. misfit c.args.bytes.now c.args.at Pegs left lowest station c.requires c.in_err-station.field-0.0 c.in_err-station.ensures)
 
-pub returns-in-err-level : goal.returns-in-err-level
-returns-in-err-level c =
-    let p = err_from_is_err_and c.from-residual-in-err-level.result c.from-residual-in-err-level.ensures.1 in
+pub returns-in_err-level : goal.returns-in_err-level
+returns-in_err-level c =
+    let p = err_from_is_err_and c.from_residual-in_err-level.result c.from_residual-in_err-level.ensures.1 in
     rw (p.1, p.2)
-    (in_level c.args.bytes.now c.args.at c.in-ok-station.station c.in-ok-station.ensures c.in-err-level.field-0.0 c.in-err-level.ensures)
+    (in_level c.args.bytes.now c.args.at c.in_ok-station.station c.in_ok-station.ensures c.in_err-level.field-0.0 c.in_err-level.ensures)
 
 pub returns : goal.returns
 returns c =
-    peg_read c.args.bytes.now c.args.at c.in-ok-station.station c.in-ok-station.ensures c.in-ok-level.level c.in-ok-level.ensures
+    peg_read c.args.bytes.now c.args.at c.in_ok-station.station c.in_ok-station.ensures c.in_ok-level.level c.in_ok-level.ensures

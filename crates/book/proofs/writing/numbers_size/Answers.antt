@@ -9,7 +9,7 @@ loop-n-preserved c =
     let ns = c.args.numbers.now in
     let k = c.loop-n.n-index in
     let e = ap (λ l. length (written l)) (drop_more ns k 0 (omega arith)) in
-    (omega (arith, e, length-written (get_or ns k 0) (drop (k + 1) ns), c.loop-n.invariant.0, c.number-size-size.ensures.is), omega arith)
+    (omega (arith, e, length-written (get_or ns k 0) (drop (k + 1) ns), c.loop-n.invariant.0, c.number_size-size.ensures.is), omega arith)
 
 pub returns : goal.returns
 returns c =

@@ -7,14 +7,14 @@ use Rattle.book.proofs.writing.tally_fixed.Goals as goal
 pub loop-k-preserved : goal.loop-k-preserved
 loop-k-preserved c =
     elim c.if-slot-gt0.branch [
-      | then-slot-gt0 w ↦ rw (w.count-is, w.size-is, w.fixed-size-size.ensures.is)
+      | then-slot-gt0 w ↦ rw (w.count-is, w.size-is, w.fixed_size-size.ensures.is)
           (count_take fixed_figures c.args.slots.now c.loop-k.k c.loop-k.count c.loop-k.size c.loop-k.invariant c.loop-k-test.true w.if-slot-gt0.true
-          (omega (arith, w.fixed-size-size.ensures.is, w.fixed-size-size.ensures.few)))
+          (omega (arith, w.fixed_size-size.ensures.is, w.fixed_size-size.ensures.few)))
       | else-slot-gt0 w ↦ rw (w.count-is, w.size-is)
           (count_skip fixed_figures c.args.slots.now c.loop-k.k c.loop-k.count c.loop-k.size c.loop-k.invariant c.loop-k-test.true w.if-slot-gt0.false)
     ]
 
 pub returns : goal.returns
 returns c =
-    count_stop fixed_figures c.args.slots.now c.loop-k.k c.loop-k.count c.loop-k.size c.loop-k.invariant c.requires (omega arith) c.number-size.result c.number-size.ensures.is
-    c.number-size.ensures.few
+    count_stop fixed_figures c.args.slots.now c.loop-k.k c.loop-k.count c.loop-k.size c.loop-k.invariant c.requires (omega arith) c.number_size.result c.number_size.ensures.is
+    c.number_size.ensures.few

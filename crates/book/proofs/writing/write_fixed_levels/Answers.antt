@@ -4,32 +4,32 @@ use Rattle.book.proofs.Writes.{book_done, book_room, book_skip, book_stop, book_
 use Rattle.book.proofs.writing.write_fixed_levels.Goals.{then-slot-gt0, else-slot-gt0}
 use Rattle.book.proofs.writing.write_fixed_levels.Goals as goal
 
-pub write-number-end-requires : goal.write-number-end-requires
-write-number-end-requires c = count_room fixed_figures c.args.slots.now c.args.out.now c.args.at c.args.count c.requires.1 c.requires.2
+pub write_number-end-requires : goal.write_number-end-requires
+write_number-end-requires c = count_room fixed_figures c.args.slots.now c.args.out.now c.args.at c.args.count c.requires.1 c.requires.2
 
-pub write-fixed-end-requires : goal.write-fixed-end-requires
-write-fixed-end-requires c =
-    book_room fixed_figures c.args.slots.now c.write-number-end.new.out c.write-number-end.result c.loop-k.out c.loop-k.end c.loop-k.k c.loop-k.invariant
-    (entries_room fixed_figures c.args.slots.now c.args.out.now c.args.at c.args.count c.requires.1 c.requires.2 c.write-number-end.result c.loop-k.out c.write-number-end.ensures.end (omega arith)) c.loop-k-test.true
+pub write_fixed-end-requires : goal.write_fixed-end-requires
+write_fixed-end-requires c =
+    book_room fixed_figures c.args.slots.now c.write_number-end.new.out c.write_number-end.result c.loop-k.out c.loop-k.end c.loop-k.k c.loop-k.invariant
+    (entries_room fixed_figures c.args.slots.now c.args.out.now c.args.at c.args.count c.requires.1 c.requires.2 c.write_number-end.result c.loop-k.out c.write_number-end.ensures.end (omega arith)) c.loop-k-test.true
     c.if-slot-gt0.true
 
 pub loop-k-preserved : goal.loop-k-preserved
 loop-k-preserved c =
     elim c.if-slot-gt0.branch [
-      | then-slot-gt0 w ↦ rw (w.out-is, w.end-is, w.write-fixed-end.ensures.end, w.write-fixed-end.ensures.text)
-          (book_take fixed_figures c.args.slots.now c.write-number-end.new.out c.write-number-end.result c.loop-k.out c.loop-k.end c.loop-k.k c.loop-k.invariant
-          (entries_room fixed_figures c.args.slots.now c.args.out.now c.args.at c.args.count c.requires.1 c.requires.2 c.write-number-end.result c.loop-k.out c.write-number-end.ensures.end (omega arith)) c.loop-k-test.true
+      | then-slot-gt0 w ↦ rw (w.out-is, w.end-is, w.write_fixed-end.ensures.end, w.write_fixed-end.ensures.text)
+          (book_take fixed_figures c.args.slots.now c.write_number-end.new.out c.write_number-end.result c.loop-k.out c.loop-k.end c.loop-k.k c.loop-k.invariant
+          (entries_room fixed_figures c.args.slots.now c.args.out.now c.args.at c.args.count c.requires.1 c.requires.2 c.write_number-end.result c.loop-k.out c.write_number-end.ensures.end (omega arith)) c.loop-k-test.true
           w.if-slot-gt0.true)
       | else-slot-gt0 w ↦ rw (w.out-is, w.end-is)
-          (book_skip fixed_figures c.args.slots.now c.write-number-end.new.out c.write-number-end.result c.loop-k.out c.loop-k.end c.loop-k.k c.loop-k.invariant
-          (entries_room fixed_figures c.args.slots.now c.args.out.now c.args.at c.args.count c.requires.1 c.requires.2 c.write-number-end.result c.loop-k.out c.write-number-end.ensures.end (omega arith)) c.loop-k-test.true
+          (book_skip fixed_figures c.args.slots.now c.write_number-end.new.out c.write_number-end.result c.loop-k.out c.loop-k.end c.loop-k.k c.loop-k.invariant
+          (entries_room fixed_figures c.args.slots.now c.args.out.now c.args.at c.args.count c.requires.1 c.requires.2 c.write_number-end.result c.loop-k.out c.write_number-end.ensures.end (omega arith)) c.loop-k-test.true
           w.if-slot-gt0.false)
     ]
 
 pub returns : goal.returns
 returns c =
-    let s = book_done fixed_figures c.args.slots.now c.args.out.now c.args.at c.args.count c.requires.1 c.requires.2 c.write-number-end.result c.loop-k.end c.write-number-end.new.out c.loop-k.out
-    c.write-number-end.ensures.end c.write-number-end.ensures.written
-    (book_stop fixed_figures c.args.slots.now c.write-number-end.new.out c.write-number-end.result c.loop-k.out c.loop-k.end c.loop-k.k c.loop-k.invariant
-    (entries_room fixed_figures c.args.slots.now c.args.out.now c.args.at c.args.count c.requires.1 c.requires.2 c.write-number-end.result c.loop-k.out c.write-number-end.ensures.end (omega arith)) c.loop-k-test.false) in
+    let s = book_done fixed_figures c.args.slots.now c.args.out.now c.args.at c.args.count c.requires.1 c.requires.2 c.write_number-end.result c.loop-k.end c.write_number-end.new.out c.loop-k.out
+    c.write_number-end.ensures.end c.write_number-end.ensures.written
+    (book_stop fixed_figures c.args.slots.now c.write_number-end.new.out c.write_number-end.result c.loop-k.out c.loop-k.end c.loop-k.k c.loop-k.invariant
+    (entries_room fixed_figures c.args.slots.now c.args.out.now c.args.at c.args.count c.requires.1 c.requires.2 c.write_number-end.result c.loop-k.out c.write_number-end.ensures.end (omega arith)) c.loop-k-test.false) in
     record { end = s.0; text = s.1 }

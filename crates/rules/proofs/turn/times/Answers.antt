@@ -3,8 +3,8 @@ use Rattle.std.proofs.lemmas.Int.{to_z-of_z}
 use Rattle.rules.proofs.Products.{product_small, small_fits, cast_run}
 use Rattle.rules.proofs.turn.times.Goals as goal
 
-pub overflow-mul-result : goal.overflow-mul-result
-overflow-mul-result c =
+pub overflow_mul-result : goal.overflow_mul-result
+overflow_mul-result c =
     let small = product_small 9000000 10000 c.args.rise c.args.run c.requires.0 c.requires.1 in
     rw (to_z-of_z w64 c.args.rise c.ranges.rise, cast_run c.args.run (omega arith)) (small_fits _ (omega arith))
 

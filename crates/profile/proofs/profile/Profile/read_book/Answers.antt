@@ -3,8 +3,8 @@ use Rattle.profile.proofs.Answered.{err_or_ok, ok_or_err, same_err, same_ok}
 use Rattle.profile.proofs.Kept.{from_book, parts}
 use Rattle.profile.proofs.profile.Profile.read_book.Goals as goal
 
-pub invariant-of-self : goal.invariant-of-self
-invariant-of-self c = parts c.in-Ok.tables (from_book c.in-Ok.tables c.in-Ok.ensures.reads.0)
+pub invariant_of-self : goal.invariant_of-self
+invariant_of-self c = parts c.in-Ok.tables (from_book c.in-Ok.tables c.in-Ok.ensures.reads.0)
 
 pub returns-in-Ok : goal.returns-in-Ok
 returns-in-Ok c =
