@@ -135,9 +135,9 @@ fn write_fixed(out: &mut [u8], at: usize, number: u32, slot: Slot<FixedLevel>) -
 
 // Writes the count of the pegs and their entries, and tells the place after them.
 fn write_pegs(out: &mut [u8], at: usize, slots: &[Slot<Peg>], count: u32) -> usize
-    requires slots_len_bound { length slots.now ≤ 40 }
-    requires count_value { count ≡ edited slots.now }
-    requires slots_in_bounds { at + length (written (table_numbers peg_figures slots.now)) ≤ length out.old }
+    requires few { length slots.now ≤ 40 }
+    requires counted { count ≡ edited slots.now }
+    requires room { at + length (written (table_numbers peg_figures slots.now)) ≤ length out.old }
     ensures end { result ≡ at + length (written (table_numbers peg_figures slots.now)) }
     ensures text { out.new ≡ put out.old at (written (table_numbers peg_figures slots.now)) }
 {
@@ -153,9 +153,9 @@ fn write_pegs(out: &mut [u8], at: usize, slots: &[Slot<Peg>], count: u32) -> usi
 
 // Writes the count of the fixed levels and their entries, and tells the place after them.
 fn write_fixed_levels(out: &mut [u8], at: usize, slots: &[Slot<FixedLevel>], count: u32) -> usize
-    requires slots_len_bound { length slots.now ≤ 40 }
-    requires count_value { count ≡ edited slots.now }
-    requires slots_in_bounds { at + length (written (table_numbers fixed_figures slots.now)) ≤ length out.old }
+    requires few { length slots.now ≤ 40 }
+    requires counted { count ≡ edited slots.now }
+    requires room { at + length (written (table_numbers fixed_figures slots.now)) ≤ length out.old }
     ensures end { result ≡ at + length (written (table_numbers fixed_figures slots.now)) }
     ensures text { out.new ≡ put out.old at (written (table_numbers fixed_figures slots.now)) }
 {

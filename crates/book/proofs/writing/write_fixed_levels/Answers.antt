@@ -5,12 +5,12 @@ use Rattle.book.proofs.writing.write_fixed_levels.Goals.{then-slot-gt0, else-slo
 use Rattle.book.proofs.writing.write_fixed_levels.Goals as goal
 
 pub write_number-end-requires : goal.write_number-end-requires
-write_number-end-requires c = count_room fixed_figures c.args.slots.now c.args.out.now c.args.at c.args.count c.requires.1 c.requires.2
+write_number-end-requires c = count_room fixed_figures c.args.slots.now c.args.out.now c.args.at c.args.count c.requires.counted c.requires.room
 
 pub write_fixed-end-requires : goal.write_fixed-end-requires
 write_fixed-end-requires c =
     book_room fixed_figures c.args.slots.now c.write_number-end.new.out c.write_number-end.result c.loop-k.out c.loop-k.end c.loop-k.k c.loop-k.invariant
-    (entries_room fixed_figures c.args.slots.now c.args.out.now c.args.at c.args.count c.requires.1 c.requires.2 c.write_number-end.result c.loop-k.out c.write_number-end.ensures.end (omega arith)) c.loop-k-test.true
+    (entries_room fixed_figures c.args.slots.now c.args.out.now c.args.at c.args.count c.requires.counted c.requires.room c.write_number-end.result c.loop-k.out c.write_number-end.ensures.end (omega arith)) c.loop-k-test.true
     c.if-slot-gt0.true
 
 pub loop-k-preserved : goal.loop-k-preserved
@@ -18,18 +18,18 @@ loop-k-preserved c =
     elim c.if-slot-gt0.branch [
       | then-slot-gt0 w ↦ rw (w.out-is, w.end-is, w.write_fixed-end.ensures.end, w.write_fixed-end.ensures.text)
           (book_take fixed_figures c.args.slots.now c.write_number-end.new.out c.write_number-end.result c.loop-k.out c.loop-k.end c.loop-k.k c.loop-k.invariant
-          (entries_room fixed_figures c.args.slots.now c.args.out.now c.args.at c.args.count c.requires.1 c.requires.2 c.write_number-end.result c.loop-k.out c.write_number-end.ensures.end (omega arith)) c.loop-k-test.true
+          (entries_room fixed_figures c.args.slots.now c.args.out.now c.args.at c.args.count c.requires.counted c.requires.room c.write_number-end.result c.loop-k.out c.write_number-end.ensures.end (omega arith)) c.loop-k-test.true
           w.if-slot-gt0.true)
       | else-slot-gt0 w ↦ rw (w.out-is, w.end-is)
           (book_skip fixed_figures c.args.slots.now c.write_number-end.new.out c.write_number-end.result c.loop-k.out c.loop-k.end c.loop-k.k c.loop-k.invariant
-          (entries_room fixed_figures c.args.slots.now c.args.out.now c.args.at c.args.count c.requires.1 c.requires.2 c.write_number-end.result c.loop-k.out c.write_number-end.ensures.end (omega arith)) c.loop-k-test.true
+          (entries_room fixed_figures c.args.slots.now c.args.out.now c.args.at c.args.count c.requires.counted c.requires.room c.write_number-end.result c.loop-k.out c.write_number-end.ensures.end (omega arith)) c.loop-k-test.true
           w.if-slot-gt0.false)
     ]
 
 pub returns : goal.returns
 returns c =
-    let s = book_done fixed_figures c.args.slots.now c.args.out.now c.args.at c.args.count c.requires.1 c.requires.2 c.write_number-end.result c.loop-k.end c.write_number-end.new.out c.loop-k.out
+    let s = book_done fixed_figures c.args.slots.now c.args.out.now c.args.at c.args.count c.requires.counted c.requires.room c.write_number-end.result c.loop-k.end c.write_number-end.new.out c.loop-k.out
     c.write_number-end.ensures.end c.write_number-end.ensures.written
     (book_stop fixed_figures c.args.slots.now c.write_number-end.new.out c.write_number-end.result c.loop-k.out c.loop-k.end c.loop-k.k c.loop-k.invariant
-    (entries_room fixed_figures c.args.slots.now c.args.out.now c.args.at c.args.count c.requires.1 c.requires.2 c.write_number-end.result c.loop-k.out c.write_number-end.ensures.end (omega arith)) c.loop-k-test.false) in
+    (entries_room fixed_figures c.args.slots.now c.args.out.now c.args.at c.args.count c.requires.counted c.requires.room c.write_number-end.result c.loop-k.out c.write_number-end.ensures.end (omega arith)) c.loop-k-test.false) in
     record { end = s.0; text = s.1 }
