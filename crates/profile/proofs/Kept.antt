@@ -124,26 +124,26 @@ sound_of p = record {
 
 -- the same fact by fact, as a profile keeps them
 pub parts : (t : Tables) → TablesSound t
-    → (length t.pegs ≡ 40) × ((length t.fixed ≡ 16) × (PegsFine t × (FixedFine t × (PegsFit t × (FixedFit t × (PegsUntouched t × (FixedUntouched t × Unit {0})))))))
-parts t s = (
-  s.forty,
-  (
-    s.sixteen,
-    (
-      (λ n. (s.pegs n).fine),
-      (
-        (λ n. (s.fixed n).fine),
-        (
-          (λ n. (s.pegs n).fit),
-          (
-            (λ n. (s.fixed n).fit),
-            ((λ n. (s.pegs n).untouched_empty), ((λ n. (s.fixed n).untouched_empty), tt)),
-          ),
-        ),
-      ),
-    ),
-  ),
-)
+    → record {
+      forty : length t.pegs ≡ 40;
+      sixteen : length t.fixed ≡ 16;
+      pegs_fine : PegsFine t;
+      fixed_fine : FixedFine t;
+      pegs_fit : PegsFit t;
+      fixed_fit : FixedFit t;
+      pegs_untouched : PegsUntouched t;
+      fixed_untouched : FixedUntouched t;
+    }
+parts t s = record {
+  forty = s.forty;
+  sixteen = s.sixteen;
+  pegs_fine = λ n. (s.pegs n).fine;
+  fixed_fine = λ n. (s.fixed n).fine;
+  pegs_fit = λ n. (s.pegs n).fit;
+  fixed_fit = λ n. (s.fixed n).fit;
+  pegs_untouched = λ n. (s.pegs n).untouched_empty;
+  fixed_untouched = λ n. (s.fixed n).untouched_empty;
+}
 
 -- an option that is empty has no value
 none_held : {V : Type 0} (o : Option V) → o ≡ None → is_some o ≡ false
