@@ -41,7 +41,7 @@ pub struct Desk {
 
 // What a code answers to an inquiry, or the first reason against the inquiry's figures.
 fn ask<C: RoadCode>(code: &C, by: Choice, inquiry: Inquiry) -> Result<Answer, Refusal>
-    ensures { Answers (grade_verdict code.now) (curve_verdict code.now) by inquiry result }
+    ensures { Answers (C.grade_verdict code.now) (C.curve_verdict code.now) by inquiry result }
 {
     match inquiry {
         Inquiry::Grade { from, to } => {
