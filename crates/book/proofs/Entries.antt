@@ -7,7 +7,7 @@ use Rattle.book.specs.declared.entry.Table.TheVariants.{Pegs, Fixed}
 use Rattle.book.specs.declared.fault.EntryFault.{EntryFault}
 use Rattle.book.specs.declared.number.Read.{Read}
 use Rattle.book.specs.Book.{fixed_figures, peg_figures, written}
-use Rattle.book.specs.Numbers.{number, Stands}
+use Rattle.book.specs.Numbers.{Stands}
 use Rattle.book.specs.Reading.{EntryRead, Fielded, FiguresRead, HeadRead, InRange}
 use Rattle.book.specs.Sound.{GoodFixed, GoodPeg}
 use Rattle.book.specs.Wanted.{Fair, FirstInEntry, entry, entry_number, field, high_bound, highest, level, low_bound, mark, marked, sequence, station}

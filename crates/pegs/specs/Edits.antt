@@ -1,5 +1,5 @@
 -- Edits: which are well-formed, and why one is refused for its form. Assumes nothing.
-use Rattle.std.specs.Prelude.{◌≡◌, ℕ, ◌^◌, ◌<◌, ◌≤◌, Ok, Err, Result}
+use Rattle.std.specs.Prelude.{ℕ, ◌^◌, ◌<◌, ◌≤◌, Ok, Err, Result}
 use Rattle.rules.specs.Refusals.{refusal_number}
 use Rattle.rules.specs.declared.refusal.Refusal.TheVariants as figure
 use Rattle.pegs.specs.declared.edit.Edit.{Edit}

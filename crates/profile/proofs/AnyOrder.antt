@@ -1,13 +1,13 @@
 -- The order in which edits arrive makes no difference. Assumes nothing.
-use Rattle.std.proofs.Common.{◌≡◌, ℕ, ◌<◌, ◌≤◌, ◌⊎◌, List, [], ◌∷◌, ◌++◌, Some, None, Ok, Option, sym, refl, ap, ◌∙◌, subst, inl, inr, ⊎_elim, arith}
+use Rattle.std.proofs.Common.{◌≡◌, ℕ, ◌≤◌, List, [], ◌∷◌, ◌++◌, Ok, Option, sym, ap, ◌∙◌, subst, ⊎_elim, arith}
 use Rattle.std.specs.List.{AllByRecursion as All}
 use Rattle.pegs.specs.Edits.{WellFormed, sequence}
 use Rattle.pegs.specs.Tables.{fixed_slot, peg_slot}
 use Rattle.pegs.specs.declared.edit.Edit.{Edit}
 use Rattle.pegs.specs.declared.edit.Edit.TheVariants.{Place, Lift, Fix, Clear}
 use Rattle.pegs.specs.declared.slot.Slot.{Slot}
-use Rattle.profile.specs.History.{Event, Run, read}
-use Rattle.profile.specs.Law.{Among, AnyOrder, Bookless, Highest, OfFixed, OfPeg, SameEdits, Since, TookBook, edits, fixed_said, peg_said}
+use Rattle.profile.specs.History.{Event, read}
+use Rattle.profile.specs.Law.{Among, AnyOrder, Bookless, Highest, OfFixed, OfPeg, Since, TookBook, edits, fixed_said, peg_said}
 use Rattle.profile.proofs.Runs.{so_far}
 use Rattle.profile.proofs.Standing.{Standing}
 

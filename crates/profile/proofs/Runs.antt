@@ -1,5 +1,5 @@
 -- Every history leaves a profile as its edits said. Assumes nothing.
-use Rattle.std.proofs.Common.{◌≡◌, ℕ, ◌⊎◌, List, [], ◌∷◌, ◌++◌, Ok, Err, sym, refl, ap, ◌∙◌, subst, inl, inr, ⊎_elim, append_assoc, append-nil}
+use Rattle.std.proofs.Common.{◌≡◌, ℕ, List, [], ◌∷◌, ◌++◌, Ok, Err, sym, refl, ap, ◌∙◌, subst, inl, inr, ⊎_elim, append_assoc, append-nil}
 use Rattle.std.proofs.ByRecursion.{All-push}
 use Rattle.pegs.specs.Tables.{fixed_slot, peg_slot}
 use Rattle.pegs.specs.declared.edit.Edit.{Edit}
@@ -7,7 +7,7 @@ use Rattle.pegs.specs.declared.tables.Tables.{Tables}
 use Rattle.profile.specs.declared.profile.Profile.{Profile}
 use Rattle.profile.specs.Entries.{entries}
 use Rattle.profile.specs.History.{Answers, Event, Run, begins, edited, goes, read}
-use Rattle.profile.specs.Law.{AsEdited, LastBook, OfFixed, OfPeg, Since, StandsAsEdited, TookBook, edits, fixed_said, peg_said}
+use Rattle.profile.specs.Law.{OfFixed, OfPeg, Since, StandsAsEdited, TookBook, edits, fixed_said, peg_said}
 use Rattle.profile.specs.Reading.{IsBook}
 use Rattle.profile.proofs.Kept.{sound_of}
 use Rattle.profile.proofs.Standing.{as_said}

@@ -1,13 +1,12 @@
 -- One slot through a log of edits. Assumes nothing.
-use Rattle.std.proofs.Common.{◌≡◌, ℕ, zero, suc, ◌+◌, ◌<◌, ◌≤◌, true, false, cond, eqb, ◌⊎◌, List, [], ◌∷◌, ◌++◌, length, get_or, set, Some, None, Option, sym, refl, ap, ◌∙◌, subst, inl, inr, ⊎_elim, append_assoc, append-nil, arith, get_or-set_other, get_or-set_same}
+use Rattle.std.proofs.Common.{◌≡◌, ℕ, ◌<◌, ◌≤◌, ◌⊎◌, List, [], ◌∷◌, ◌++◌, length, get_or, set, None, Option, sym, refl, ap, ◌∙◌, subst, inl, inr, ⊎_elim, append_assoc, append-nil, arith, get_or-set_other, get_or-set_same}
 use Rattle.std.specs.List.{AllByRecursion as All}
 use Rattle.std.proofs.ByRecursion.{All-push, All-weaker}
-use Rattle.std.proofs.lemmas.Bool.{cases_eq, eq-eqb, ne_eqb, cond-true, cond-false}
+use Rattle.std.proofs.lemmas.Bool.{cases_eq}
 use Rattle.pegs.specs.Edits.{sequence}
 use Rattle.pegs.specs.Slots.{untouched}
 use Rattle.pegs.specs.declared.edit.Edit.{Edit}
 use Rattle.pegs.specs.declared.slot.Slot.{Slot}
-use Rattle.profile.specs.Entries.{entries_from}
 use Rattle.profile.specs.Law.{AsSaid, Highest}
 
 -- the slot is as the log says, its remembered number too

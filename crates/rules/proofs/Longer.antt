@@ -1,5 +1,5 @@
 -- Under the Indian standard a longer curve passes wherever a shorter one does. Assumes nothing.
-use Rattle.std.proofs.Common.{◌≡◌, ℕ, ◌+◌, ◌-◌, ◌*◌, ◌<◌, ◌≤◌, Bool, true, false, cond, ltb, leb, sym, refl, ◌∙◌, ⊎_elim, mul-le-mul_right, mul-le-mul_left, arith}
+use Rattle.std.proofs.Common.{◌≡◌, ℕ, ◌-◌, ◌*◌, ◌<◌, ◌≤◌, Bool, true, false, cond, ltb, leb, sym, refl, ◌∙◌, ⊎_elim, mul-le-mul_right, mul-le-mul_left, arith}
 use Rattle.std.proofs.lemmas.Bool.{leb-true, le-leb, lt-leb, le-ltb, ltb-false, cases_lt, cond-true, cond-false}
 use Rattle.rules.specs.Irc.{seen, curve_by, clause_number}
 use Rattle.rules.specs.declared.irc.Clause.{Clause}

@@ -1,5 +1,5 @@
 -- The standard's tables of speeds, and of what each speed asks. Assumes nothing.
-use Rattle.std.specs.Prelude.{ℕ, ◌≤◌}
+use Rattle.std.specs.Prelude.{◌≤◌}
 use Rattle.rules.specs.declared.road.Class.{Class}
 use Rattle.rules.specs.declared.road.Class.TheVariants.{NhSh, Mdr, Odr, Vr}
 use Rattle.rules.specs.declared.road.Terrain.{Terrain}

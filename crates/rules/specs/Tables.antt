@@ -1,5 +1,5 @@
 -- Length tables: which are lawful, and their verdicts, over any rows. Assumes nothing.
-use Rattle.std.specs.Prelude.{◌≡◌, ℕ, ◌*◌, ◌<◌, ◌≤◌, min, Bool, true, false, cond, ◌&&◌, List, [], ◌∷◌, length, ℤ, ◌==◌, nat_le, nat_lt, slice_index_or, unsigned_abs}
+use Rattle.std.specs.Prelude.{◌≡◌, ℕ, ◌*◌, ◌<◌, ◌≤◌, min, Bool, cond, ◌&&◌, List, [], ◌∷◌, length, ℤ, ◌==◌, nat_le, nat_lt, slice_index_or, unsigned_abs}
 use Rattle.rules.specs.declared.refusal.Refusal.{Refusal}
 use Rattle.rules.specs.declared.refusal.Refusal.TheVariants.{StationTooHigh, LevelTooHigh, UnknownRoadFigure, OvertakingTooSlow, UnlawfulTable, LengthOutOfStep, StationsNotRising}
 use Rattle.rules.specs.declared.refusal.TableFault.{TableFault}

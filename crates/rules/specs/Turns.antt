@@ -1,5 +1,5 @@
 -- What a turn's figures say: how much the grade changes there, and which way. Assumes nothing.
-use Rattle.std.specs.Prelude.{ℕ, ◌*◌, Bool, true, false, cond, ℤ, pos, ◌-ℤ◌, ◌*ℤ◌, int_lt, unsigned_abs}
+use Rattle.std.specs.Prelude.{ℕ, ◌*◌, cond, ℤ, pos, ◌-ℤ◌, ◌*ℤ◌, int_lt, unsigned_abs}
 use Rattle.rules.specs.declared.point.Point.{Point}
 use Rattle.rules.specs.declared.turn.Bend.{Bend}
 use Rattle.rules.specs.declared.turn.Kind.{Kind}

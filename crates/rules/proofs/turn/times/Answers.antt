@@ -1,4 +1,4 @@
-use Rattle.std.proofs.Common.{◌≡◌, pos, ◌*ℤ◌, arith, w64}
+use Rattle.std.proofs.Common.{pos, ◌*ℤ◌, arith, w64}
 use Rattle.std.proofs.lemmas.Int.{to_z-of_z}
 use Rattle.rules.proofs.Products.{product_small, small_fits, cast_run}
 use Rattle.rules.proofs.turn.times.Goals as goal

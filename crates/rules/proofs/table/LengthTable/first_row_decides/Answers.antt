@@ -1,6 +1,4 @@
 use Rattle.rules.proofs.FirstRow.{decided, undecided}
-use Rattle.rules.specs.Turns.{base, change, kind}
-use Rattle.rules.specs.Tables.{kind_number}
 use Rattle.rules.proofs.table.LengthTable.first_row_decides.Goals as goal
 
 pub returns : goal.returns
