@@ -1,6 +1,6 @@
 -- The order in which edits arrive makes no difference. Assumes nothing.
 use Rattle.std.proofs.Common.{◌≡◌, ℕ, ◌≤◌, List, [], ◌∷◌, ◌++◌, Ok, Option, sym, ap, ◌∙◌, subst, ⊎_elim, arith}
-use Rattle.std.specs.List.{AllByRecursion as All}
+use Rattle.std.specs.List.{AllByRecursion}
 use Rattle.pegs.specs.Edits.{WellFormed, sequence}
 use Rattle.pegs.specs.Tables.{fixed_slot, peg_slot}
 use Rattle.pegs.specs.declared.edit.Edit.{Edit}
@@ -12,17 +12,17 @@ use Rattle.profile.proofs.Runs.{so_far}
 use Rattle.profile.proofs.Standing.{Standing}
 
 -- what holds of each holds of the one in the middle
-at_middle : {X : Type 0} (P : X → Type 0) (before : List X) (x : X) (after : List X) → All P (before ++ (x ∷ after)) → P x
+at_middle : {X : Type 0} (P : X → Type 0) (before : List X) (x : X) (after : List X) → AllByRecursion P (before ++ (x ∷ after)) → P x
 at_middle P [] x after all = all.0
 at_middle P (b ∷ before) x after all = at_middle P before x after all.1
 
-of_one : (P : Edit → Type 0) (e : Edit) (log : List Edit) → Among e log → All P log → P e
-of_one P e log m all = at_middle P m.before e m.after (subst (All P) m.cut all)
+of_one : (P : Edit → Type 0) (e : Edit) (log : List Edit) → Among e log → AllByRecursion P log → P e
+of_one P e log m all = at_middle P m.before e m.after (subst (AllByRecursion P) m.cut all)
 
 -- without an accepted book all edits count
 all_count : (h : List Event) (log : List Edit) → Bookless h → Since h log → log ≡ edits h
 all_count h log free s =
-    ⊎_elim (λ b. b.1) (λ b. absurd (at_middle (λ e. TookBook e → ⊥) b.before (read b.bytes (Ok tt)) b.after (subst (All (λ e. TookBook e → ⊥)) b.cut free) tt)) s
+    ⊎_elim (λ b. b.1) (λ b. absurd (at_middle (λ e. TookBook e → ⊥) b.before (read b.bytes (Ok tt)) b.after (subst (AllByRecursion (λ e. TookBook e → ⊥)) b.cut free) tt)) s
 
 same_slot : {V : Type 0} (s t : Slot V) → s.last ≡ t.last → s.held ≡ t.held → s ≡ t
 same_slot s t e f = λ i. record { last = e i; held = f i }

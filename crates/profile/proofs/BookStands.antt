@@ -1,6 +1,6 @@
 -- A profile read from a book is as the book's entries say. Assumes nothing.
 use Rattle.std.proofs.Common.{◌≡◌, ℕ, zero, suc, ◌+◌, ◌≤◌, false, cond, List, [], ◌∷◌, ◌++◌, get_or, is_some, Option, sym, refl, ap, subst, inl, inr, ⊎_elim, arith}
-use Rattle.std.specs.List.{AllByRecursion as All}
+use Rattle.std.specs.List.{AllByRecursion}
 use Rattle.std.proofs.ByRecursion.{All-weaker}
 use Rattle.std.proofs.lemmas.Bool.{cases_eq, eq-eqb, ne_eqb}
 use Rattle.pegs.specs.Edits.{sequence}
@@ -27,13 +27,13 @@ no_slots edit k = refl
 
 -- no entry of these slots counts, where none of their numbers does
 pub none_count : {V : Type 0} (Counts : Edit → Type 0) (edit : ℕ → ℕ → Option V → Edit) (k : ℕ) (ss : List (Slot V))
-    → ((j s : ℕ) (v : Option V) → k ≤ j → Counts (edit j s v) → ⊥) → All (λ x. Counts x → ⊥) (entries_from edit k ss)
-none_count Counts edit k [] never = subst (All (λ x. Counts x → ⊥)) (sym (no_slots edit k)) tt
+    → ((j s : ℕ) (v : Option V) → k ≤ j → Counts (edit j s v) → ⊥) → AllByRecursion (λ x. Counts x → ⊥) (entries_from edit k ss)
+none_count Counts edit k [] never = subst (AllByRecursion (λ x. Counts x → ⊥)) (sym (no_slots edit k)) tt
 none_count Counts edit k (s ∷ ss) never =
     let rest = none_count Counts edit (suc k) ss (λ j q v h. never j q v (omega arith)) in
     ⊎_elim
-    (λ z. subst (All (λ x. Counts x → ⊥)) (sym (no_entry edit k s ss z)) rest)
-    (λ some. subst (All (λ x. Counts x → ⊥)) (sym (own_entry edit k s ss some)) (never k s.last s.held (omega arith), rest))
+    (λ z. subst (AllByRecursion (λ x. Counts x → ⊥)) (sym (no_entry edit k s ss z)) rest)
+    (λ some. subst (AllByRecursion (λ x. Counts x → ⊥)) (sym (own_entry edit k s ss some)) (never k s.last s.held (omega arith), rest))
     (cases_eq s.last 0)
 
 -- how edits of one kind of slot are told apart by their numbers

@@ -1,6 +1,6 @@
 -- One slot through a log of edits. Assumes nothing.
 use Rattle.std.proofs.Common.{◌≡◌, ℕ, ◌<◌, ◌≤◌, ◌⊎◌, List, [], ◌∷◌, ◌++◌, length, get_or, set, None, Option, sym, refl, ap, ◌∙◌, subst, inl, inr, ⊎_elim, append_assoc, append-nil, arith, get_or-set_other, get_or-set_same}
-use Rattle.std.specs.List.{AllByRecursion as All}
+use Rattle.std.specs.List.{AllByRecursion}
 use Rattle.std.proofs.ByRecursion.{All-push, All-weaker}
 use Rattle.std.proofs.lemmas.Bool.{cases_eq}
 use Rattle.pegs.specs.Edits.{sequence}
@@ -11,8 +11,8 @@ use Rattle.profile.specs.Law.{AsSaid, Highest}
 
 -- the slot is as the log says, its remembered number too
 pub record Standing {V : Type 0} (Counts : Edit → Type 0) (said : Edit → Option V) (log : List Edit) (slot : Slot V) : Type 0 where
-  pub stands : (All (λ x. Counts x → ⊥) log × (slot.last ≡ 0) × (slot.held ≡ None)) ⊎ ((e : Edit) × Highest Counts log e × (slot.last ≡ sequence e) × (slot.held ≡ said e))
-  pub below : All (λ x. Counts x → sequence x ≤ slot.last) log
+  pub stands : (AllByRecursion (λ x. Counts x → ⊥) log × (slot.last ≡ 0) × (slot.held ≡ None)) ⊎ ((e : Edit) × Highest Counts log e × (slot.last ≡ sequence e) × (slot.held ≡ said e))
+  pub below : AllByRecursion (λ x. Counts x → sequence x ≤ slot.last) log
 
 module _ {V : Type 0} (Counts : Edit → Type 0) (said : Edit → Option V) where
   pub as_said : (log : List Edit) (slot : Slot V) → Standing Counts said log slot → AsSaid Counts said log slot.held
@@ -84,12 +84,12 @@ module _ {V : Type 0} (Counts : Edit → Type 0) (said : Edit → Option V) wher
     below = (λ c. absurd (none c), g.below);
   }
 
-  pub all_before : (es log : List Edit) (slot : Slot V) → All (λ x. Counts x → ⊥) es → Standing Counts said log slot → Standing Counts said (es ++ log) slot
+  pub all_before : (es log : List Edit) (slot : Slot V) → AllByRecursion (λ x. Counts x → ⊥) es → Standing Counts said log slot → Standing Counts said (es ++ log) slot
   all_before [] log slot none g = g
   all_before (e ∷ es) log slot none g = before_it e (es ++ log) slot none.0 (all_before es log slot none.1 g)
 
   -- and after it
-  pub all_after : (log es : List Edit) (slot : Slot V) → All (λ x. Counts x → ⊥) es → Standing Counts said log slot → Standing Counts said (log ++ es) slot
+  pub all_after : (log es : List Edit) (slot : Slot V) → AllByRecursion (λ x. Counts x → ⊥) es → Standing Counts said log slot → Standing Counts said (log ++ es) slot
   all_after log [] slot none g = rw append-nil g
   all_after log (e ∷ es) slot none g =
       subst (λ l. Standing Counts said l slot) (append_assoc log (e ∷ []) es)

@@ -1,6 +1,6 @@
 -- What stands on a profile after any history of calls. Assumes nothing.
 use Rattle.std.specs.Prelude.{◌≡◌, ℕ, ◌<◌, ◌≤◌, ◌⊎◌, List, [], ◌∷◌, ◌++◌, Some, None, Ok, Err, Option}
-use Rattle.std.specs.List.{AllByRecursion as All}
+use Rattle.std.specs.List.{AllByRecursion}
 use Rattle.pegs.specs.Edits.{WellFormed, sequence}
 use Rattle.pegs.specs.Tables.{fixed_slot, peg_slot}
 use Rattle.pegs.specs.declared.edit.Edit.{Edit}
@@ -21,7 +21,7 @@ TookBook (read bytes (Err x)) = ⊥
 
 -- no book was accepted
 abbrev pub Bookless : List Event → Type 0
-Bookless h = All (λ e. TookBook e → ⊥) h
+Bookless h = AllByRecursion (λ e. TookBook e → ⊥) h
 
 -- the edits of a history, taken or refused
 abbrev pub edits : List Event → List Edit
@@ -50,12 +50,12 @@ pub record Highest (Counts : Edit → Type 0) (log : List Edit) (e : Edit) : Typ
   pub after : List Edit
   pub cut : log ≡ before ++ (e ∷ after)
   pub counts : Counts e
-  pub above : All (λ x. Counts x → sequence x < sequence e) before
-  pub not_below : All (λ x. Counts x → sequence x ≤ sequence e) after
+  pub above : AllByRecursion (λ x. Counts x → sequence x < sequence e) before
+  pub not_below : AllByRecursion (λ x. Counts x → sequence x ≤ sequence e) after
 
 -- what is held is as the highest-numbered edit that counts said, and nothing without one
 abbrev pub AsSaid : {V : Type 0} → (Edit → Type 0) → (Edit → Option V) → List Edit → Option V → Type 0
-AsSaid Counts said log v = (All (λ x. Counts x → ⊥) log × (v ≡ None)) ⊎ ((e : Edit) × Highest Counts log e × (v ≡ said e))
+AsSaid Counts said log v = (AllByRecursion (λ x. Counts x → ⊥) log × (v ≡ None)) ⊎ ((e : Edit) × Highest Counts log e × (v ≡ said e))
 
 -- a well-formed edit of the peg n
 abbrev pub OfPeg : ℕ → Edit → Type 0
