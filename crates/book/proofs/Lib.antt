@@ -7,3 +7,4 @@ pub mod Laws
 pub mod Once
 pub mod Writes
 pub mod Sizes
+pub mod Exact

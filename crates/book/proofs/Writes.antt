@@ -22,7 +22,7 @@ unfolding written
 length_none = refl
 
 -- a write after a write
-put-put : (xs : List ℕ) (at : ℕ) (ys zs : List ℕ) → at + length ys ≤ length xs → put (put xs at ys) (at + length ys) zs ≡ put xs at (ys ++ zs)
+pub put-put : (xs : List ℕ) (at : ℕ) (ys zs : List ℕ) → at + length ys ≤ length xs → put (put xs at ys) (at + length ys) zs ≡ put xs at (ys ++ zs)
 put-put xs at ys zs h =
     let l : length (take at xs) ≡ at = length-take-le at xs (omega arith) in
     let m : length (take at xs ++ ys) ≡ at + length ys = length-append (take at xs) ys ∙ rw l refl in

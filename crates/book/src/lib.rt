@@ -3,6 +3,6 @@
 
 mod entry;
 pub mod fault;
-mod number;
+pub mod number;
 pub mod reading;
 pub mod writing;

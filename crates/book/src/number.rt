@@ -1,14 +1,15 @@
 // Numbers in groups of seven bits, lowest first, in the shortest form.
 ghost use Rattle.std.specs.Prelude.{◌≡◌, ◌+◌, ◌≤◌, length};
 ghost use Rattle.book.specs.Numbers.{Numbered, number, put};
+ghost use Rattle.book.specs.Pairs.{ExactlyRead, NumberRead, PairWritten};
 
-use crate::fault::{NumberFault, NumberKind};
+use crate::fault::{NumberFault, NumberKind, TooShort};
 
 // A number that was read, and the place after it.
 #[derive(Clone, Copy)]
-pub(crate) struct Read {
-    pub(crate) value: u32,
-    pub(crate) end: usize,
+pub struct Read {
+    pub value: u32,
+    pub end: usize,
 }
 
 // The number that stands at a place.
@@ -87,4 +88,35 @@ pub(crate) fn write_number(out: &mut [u8], at: usize, n: u32) -> usize
     }
     out[end] = left as u8;
     end + 1
+}
+
+// The number that stands at a place, or why none does; beyond the last byte it is cut off.
+pub fn read_at(bytes: &[u8], at: usize) -> Result<Read, NumberFault>
+    ensures answer { NumberRead bytes.now at result }
+    ensures exact { ExactlyRead bytes.now at result }
+{
+    if at > bytes.len() {
+        return Err(NumberFault {
+            place: at,
+            kind: NumberKind::Cut,
+        });
+    }
+    match read_number(bytes, at) {
+        Ok(read) => Ok(read),
+        Err(fault) => Err(fault),
+    }
+}
+
+// Writes two numbers at a place, and tells the place after them; where the room is short, nothing is written.
+pub fn write_pair(out: &mut [u8], at: usize, first: u32, second: u32) -> Result<usize, TooShort>
+    ensures { PairWritten out.old at first second out.new result }
+{
+    if out.len() < at {
+        return Err(TooShort);
+    }
+    if out.len() - at < number_size(first) + number_size(second) {
+        return Err(TooShort);
+    }
+    let middle = write_number(out, at, first);
+    Ok(write_number(out, middle, second))
 }
