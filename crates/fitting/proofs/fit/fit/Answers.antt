@@ -12,7 +12,12 @@ invariant_of-result g c =
     let ls = take a.count c.lay-found.new.lengths in
     let w = c.in-Ok.ensures in
     let many : 2 ≤ length (take a.count a.pegs) = omega (arith, a.least, a.most, a.forty, length-take a.count a.pegs) in
-    record { forty = w.room.1; apart = laid_apart v ps a.fixed ls w.found.0.meets; first = laid_first v ps a.fixed ls w.found.0.meets many; last = laid_last v ps a.fixed ls w.found.0.meets many }
+    record {
+      forty = w.room.1;
+      apart = laid_apart v ps a.fixed ls w.found.0.meets;
+      first = laid_first v ps a.fixed ls w.found.0.meets many;
+      last = laid_last v ps a.fixed ls w.found.0.meets many;
+    }
 
 pub returns-in-Ok : goal.returns-in-Ok
 returns-in-Ok g c =

@@ -8,4 +8,14 @@ pub invariant_of-result : goal.invariant_of-result
 invariant_of-result c =
     let from = c.args.from.now in
     let w = c.collect-count.ensures in
-    let h = c.in_ok-check.ensures in record { forty = w.most.1; sixteen = from.sixteen; least = omega (arith, h.least, w.most, length-take c.collect-count.result c.collect-count.new.pegs); most = w.most.0; figures = subst FiguresFine (sym w.line) (figures_fine from.tables.pegs from.pegs_fine); rising = h.rising; fixed_fine = from.fixed_fine; fixed_on = h.fixed_on }
+    let h = c.in_ok-check.ensures in
+    record {
+      forty = w.most.1;
+      sixteen = from.sixteen;
+      least = omega (arith, h.least, w.most, length-take c.collect-count.result c.collect-count.new.pegs);
+      most = w.most.0;
+      figures = subst FiguresFine (sym w.line) (figures_fine from.tables.pegs from.pegs_fine);
+      rising = h.rising;
+      fixed_fine = from.fixed_fine;
+      fixed_on = h.fixed_on;
+    }
