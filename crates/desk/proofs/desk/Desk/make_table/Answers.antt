@@ -16,4 +16,5 @@ returns c =
       profile = refl;
       irc = refl;
       choice = refl;
+      sheet = refl;
     }
