@@ -1,14 +1,10 @@
 // The answers to calls.
 use crate::call::Choice;
-use crate::running::Ended;
 use book::fault::{BookFault, TooShort};
 use pegs::edit::EditRefusal;
 use pegs::peg::{FixedLevel, Peg};
-use profile::refusal::{AskRefusal, ExamineRefusal, FitRefusal, Totals};
 use rules::refusal::Refusal;
 use rules::speeds::Asked;
-use sheet::refusal::SheetRefusal;
-use sheet::sheet::Row;
 
 // What a call needs and the job has not made yet.
 #[derive(Clone, Copy)]
@@ -16,7 +12,6 @@ pub enum Missing {
     Irc,
     Table,
     Code,
-    Sheet,
 }
 
 // What stands under a number.
@@ -58,13 +53,6 @@ pub enum Answer {
     BookTooShort(TooShort),
     BookRead,
     BookRefused(BookFault),
-    Fitted(Result<Totals, FitRefusal>),
-    Examined(Result<(), ExamineRefusal>),
-    Length(Result<u32, AskRefusal>),
-    Level(Result<u32, AskRefusal>),
-    SheetBegun(Result<(), SheetRefusal>),
-    Row(Result<Row, SheetRefusal>),
-    SheetEnded(Ended),
     Refused(Refusal),
     Missing(Missing),
 }

@@ -1,14 +1,11 @@
 // What a job has made so far, and the calls on it.
-ghost use Rattle.std.specs.Prelude.{◌≡◌, ◌<◌, ◌≤◌, length, IfOk, Some, None, MatchResult};
+ghost use Rattle.std.specs.Prelude.{◌≡◌, ◌<◌, ◌≤◌, length, IfOk, Ok, Err, MatchOption, MatchResult};
 ghost use Rattle.book.specs.Book.{encode};
-ghost use Rattle.fitting.specs.Rules.{verdicts};
-ghost use Rattle.desk.specs.Desk.{Answers, AsItWas, BookTold, Chosen, Consulted, Done, DoneBy, DoneInUse, EditMade, Empty, FitDone, IrcMade, Made, ReadMade, RowAdded, RowAsked, SheetIsBegun, SheetIsEnded, TableMade, There, stands_of, told_of};
-ghost use Rattle.desk.specs.declared.desk.KeptTable.{KeptTable};
+ghost use Rattle.desk.specs.Desk.{Answers, AsItWas, AskedBy, BookTold, Chosen, EditMade, Empty, Inquired, IrcMade, Made, ReadMade, RowAdded, TableMade, There, stands_of, told_of};
 ghost use Rattle.desk.specs.declared.answer.Missing.TheVariants as missing;
 
 use crate::answer::{Answer, Missing, Stands};
-use crate::call::{Call, Choice, Inquiry, Task};
-use crate::running::{NotBegun, Running};
+use crate::call::{Call, Choice, Inquiry};
 use book::fault::TooShort;
 use pegs::edit::Edit;
 use profile::profile::Profile;
@@ -40,7 +37,6 @@ pub struct Desk {
     rows: Vec<Row>,
     table: Option<KeptTable>,
     choice: Option<Choice>,
-    sheet: Option<Running>,
 }
 
 // What a code answers to an inquiry, or the first reason against the inquiry's figures.
@@ -87,23 +83,6 @@ fn told(answer: Result<Answer, Refusal>) -> Answer
     }
 }
 
-// The task done by a code; only a fitting moves the profile.
-fn carry_out<C: RoadCode>(
-    code: &C,
-    by: Choice,
-    task: Task,
-    profile: &mut Profile,
-    store: &mut [u32],
-) -> Answer
-    ensures { Done (verdicts (C.grade_verdict code.now) (C.curve_verdict code.now)) by task profile.old profile.new store.old store.new result }
-{
-    match task {
-        Task::Ask(inquiry) => told(ask(code, by, inquiry)),
-        Task::Fit => Answer::Fitted(profile.fit(code, store)),
-        Task::Examine(lengths) => Answer::Examined(profile.examine(code, lengths.as_slice())),
-    }
-}
-
 // The bytes of a profile's book, written by way of a buffer.
 fn copy_book(
     heap: Global,
@@ -143,44 +122,37 @@ impl Desk {
             rows: Vec::new(heap),
             table: None,
             choice: None,
-            sheet: None,
         }
     }
 
-    // The task done by the code that the choice names.
-    fn do_by(
-        &self,
-        choice: Choice,
-        task: Task,
-        profile: &mut Profile,
-        store: &mut [u32],
-    ) -> Result<Answer, Missing>
-        ensures { DoneBy self.now choice task profile.old profile.new store.old store.new result }
+    // The inquiry put to the code that the choice names.
+    fn ask_by(&self, choice: Choice, inquiry: Inquiry) -> Result<Answer, Missing>
+        ensures { AskedBy self.now choice inquiry result }
     {
         match choice {
             Choice::Irc => {
                 let code = self.irc_made()?;
-                Ok(carry_out(&code, choice, task, profile, store))
+                Ok(told(ask(&code, choice, inquiry)))
             }
             Choice::Table => {
                 let code = self.table_made()?;
-                Ok(carry_out(&code, choice, task, profile, store))
+                Ok(told(ask(&code, choice, inquiry)))
             }
             Choice::IrcThenTable => {
                 let first = self.irc_made()?;
                 let second = self.table_made()?;
-                Ok(carry_out(&Stricter { first, second }, choice, task, profile, store))
+                Ok(told(ask(&Stricter { first, second }, choice, inquiry)))
             }
             Choice::TableThenIrc => {
                 let first = self.table_made()?;
                 let second = self.irc_made()?;
-                Ok(carry_out(&Stricter { first, second }, choice, task, profile, store))
+                Ok(told(ask(&Stricter { first, second }, choice, inquiry)))
             }
         }
     }
 
     fn irc_made(&self) -> Result<Irc, Missing>
-        ensures { MatchResult result (λ c. self.now.irc ≡ Some c) (λ m. (m ≡ missing.Irc) × (self.now.irc ≡ None)) }
+        ensures { MatchOption self.now.irc (result ≡ Err missing.Irc) (λ c. result ≡ Ok c) }
     {
         match self.irc {
             Some(irc) => Ok(irc),
@@ -189,7 +161,7 @@ impl Desk {
     }
 
     fn table_made(&self) -> Result<LengthTable<'_>, Missing>
-        ensures { MatchResult result (λ c. (t : KeptTable) × (self.now.table ≡ Some t) × (c.rows.now ≡ t.rows.items) × (c.bound ≡ t.bound) × (c.clause ≡ t.clause)) (λ m. (m ≡ missing.Table) × (self.now.table ≡ None)) }
+        ensures { MatchOption self.now.table (result ≡ Err missing.Table) (λ t. MatchResult result (λ c. (c.rows.now ≡ t.rows.items) × (c.bound ≡ t.bound) × (c.clause ≡ t.clause)) (λ _. ⊥)) }
     {
         match &self.table {
             Some(kept) => Ok(kept.code()),
@@ -197,36 +169,16 @@ impl Desk {
         }
     }
 
-    // The task done by the code in use.
-    fn do_in_use(&self, task: Task, profile: &mut Profile, store: &mut [u32]) -> Answer
-        ensures { DoneInUse self.now task profile.old profile.new store.old store.new result }
+    fn inquire(&self, inquiry: Inquiry) -> Answer
+        ensures { Inquired self.now inquiry result }
     {
         let Some(choice) = self.choice else {
             return Answer::Missing(Missing::Code);
         };
-        match self.do_by(choice, task, profile, store) {
+        match self.ask_by(choice, inquiry) {
             Ok(answer) => answer,
             Err(missing) => Answer::Missing(missing),
         }
-    }
-
-    // A task that leaves the profile and needs no store.
-    fn consult(&self, task: Task) -> Answer
-        ensures { Consulted self.now task result }
-    {
-        let mut profile = self.profile;
-        self.do_in_use(task, &mut profile, &mut [])
-    }
-
-    // Fits the profile with a store of so many words. No fitting needs more than 16,040, so no more are set aside.
-    fn fit(&mut self, heap: Global, words: u32) -> Result<Answer, AllocError>
-        ensures { MatchResult result (λ a. FitDone self.old words self.new a) (λ _. self.new ≡ self.old) }
-    {
-        let mut store = vec![in heap; 0u32; words.min(16_040) as usize]?;
-        let mut profile = self.profile;
-        let answer = self.do_in_use(Task::Fit, &mut profile, store.as_mut_slice());
-        self.profile = profile;
-        Ok(answer)
     }
 
     fn make_irc(&mut self, figures: RoadFigures) -> Answer
@@ -359,50 +311,6 @@ impl Desk {
         }
     }
 
-    // Begins a sheet in the place of the one before; refused, that one goes on.
-    fn begin(
-        &mut self,
-        heap: Global,
-        first: u32,
-        spacing: u32,
-        size: u32,
-    ) -> Result<Answer, AllocError>
-        ensures { MatchResult result (λ a. SheetIsBegun self.old first spacing size self.new a) (λ _. self.new ≡ self.old) }
-    {
-        match Running::begin(heap, &self.profile, first, spacing, size) {
-            Ok(running) => {
-                self.sheet = Some(running);
-                Ok(Answer::SheetBegun(Ok(())))
-            }
-            Err(NotBegun::Refused(refusal)) => Ok(Answer::SheetBegun(Err(refusal))),
-            Err(NotBegun::Memory(error)) => Err(error),
-        }
-    }
-
-    // The next row of the running sheet.
-    fn next_row(&mut self) -> Answer
-        ensures { RowAsked self.old self.new result }
-    {
-        match self.sheet.take() {
-            Some(mut running) => {
-                let row = running.row(&self.profile);
-                self.sheet = Some(running);
-                Answer::Row(row)
-            }
-            None => Answer::Missing(Missing::Sheet),
-        }
-    }
-
-    // Ends the running sheet, and tells its rows and bytes.
-    fn end(&mut self) -> Answer
-        ensures { SheetIsEnded self.old self.new result }
-    {
-        match self.sheet.take() {
-            Some(running) => Answer::SheetEnded(running.end()),
-            None => Answer::Missing(Missing::Sheet),
-        }
-    }
-
     // Makes the call. Where memory for a row is wanting, the desk stays as it was.
     pub fn make(&mut self, heap: Global, call: Call) -> Result<Answer, AllocError>
         ensures { MatchResult result (λ a. Made self.old call self.new a) (λ _. AsItWas self.old self.new) }
@@ -416,21 +324,10 @@ impl Desk {
             Call::Row(row) => self.add_row(row),
             Call::Table { bound, clause } => Ok(self.make_table(heap, bound, clause)),
             Call::Use(choice) => Ok(self.choose(choice)),
-            Call::Ask(inquiry) => Ok(self.consult(Task::Ask(inquiry))),
+            Call::Ask(inquiry) => Ok(self.inquire(inquiry)),
             Call::Edit(edit) => Ok(self.edit(edit)),
             Call::Book { size } => self.book(heap, size),
             Call::Read(bytes) => Ok(self.read(bytes.as_slice())),
-            Call::Fit { words } => self.fit(heap, words),
-            Call::Length { peg } => Ok(Answer::Length(self.profile.length(peg))),
-            Call::Level { station } => Ok(Answer::Level(self.profile.level(station))),
-            Call::Examine(lengths) => Ok(self.consult(Task::Examine(lengths))),
-            Call::Begin {
-                first,
-                spacing,
-                size,
-            } => self.begin(heap, first, spacing, size),
-            Call::Next => Ok(self.next_row()),
-            Call::End => Ok(self.end()),
         }
     }
 }

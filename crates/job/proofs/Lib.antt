@@ -1,4 +1,0 @@
-pub mod Texts
-pub mod Hex
-pub mod Cutting
-pub mod Histories

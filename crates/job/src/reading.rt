@@ -1,19 +1,14 @@
 // A call, read from the words of a line.
-ghost use Rattle.std.specs.Prelude.{◌≡◌, IfOk, codes};
-ghost use Rattle.job.specs.Names.{FigureOr, Names, NamesChoice, NamesEdit, NamesInquiry};
-
-use crate::reply::{Failure, Misread};
-use crate::words::{bytes_of, figure, figures};
+use crate::reply::Misread;
+use crate::words::{bytes_of, figures};
 use desk::call::{Call, Choice, Inquiry};
 use pegs::edit::Edit;
 use rules::point::Point;
 use rules::road::RoadFigures;
 use rules::table::Row;
-use std::alloc::Global;
+use std::alloc::{AllocError, Global};
 
-fn read_choice<'a>(names: &[&'a str]) -> Result<Choice, Misread<'a>>
-    ensures { IfOk result (λ c. NamesChoice names.now c) }
-{
+fn read_choice<'a>(names: &[&'a str]) -> Result<Choice, Misread<'a>> {
     match names {
         ["irc"] => Ok(Choice::Irc),
         ["table"] => Ok(Choice::Table),
@@ -27,15 +22,11 @@ fn read_choice<'a>(names: &[&'a str]) -> Result<Choice, Misread<'a>>
     }
 }
 
-fn point(station: u32, level: u32) -> Point
-    ensures { result ≡ record { station = station; level = level } }
-{
+fn point(station: u32, level: u32) -> Point {
     Point { station, level }
 }
 
-fn read_inquiry<'a>(name: &'a str, rest: &[&'a str]) -> Result<Inquiry, Misread<'a>>
-    ensures { IfOk result (λ q. NamesInquiry name.now rest.now q) }
-{
+fn read_inquiry<'a>(name: &'a str, rest: &[&'a str]) -> Result<Inquiry, Misread<'a>> {
     match name {
         "grade" => {
             let [s1, y1, s2, y2] = figures::<4>(rest)?;
@@ -65,9 +56,7 @@ fn read_inquiry<'a>(name: &'a str, rest: &[&'a str]) -> Result<Inquiry, Misread<
     }
 }
 
-fn read_edit<'a>(name: &'a str, rest: &[&'a str]) -> Result<Edit, Misread<'a>>
-    ensures { IfOk result (λ e. NamesEdit name.now rest.now e) }
-{
+fn read_edit<'a>(name: &'a str, rest: &[&'a str]) -> Result<Edit, Misread<'a>> {
     match name {
         "place" => {
             let [number, sequence, station, level] = figures::<4>(rest)?;
@@ -100,97 +89,43 @@ fn read_edit<'a>(name: &'a str, rest: &[&'a str]) -> Result<Edit, Misread<'a>>
     }
 }
 
-// The one figure of a call that may have none.
-fn figure_or<'a>(rest: &[&'a str], usual: u32) -> Result<u32, Misread<'a>>
-    ensures { IfOk result (λ n. FigureOr rest.now usual n) }
-{
+// The size of the buffer for a book: 795 bytes hold every book.
+fn read_size<'a>(rest: &[&'a str]) -> Result<u32, Misread<'a>> {
     if rest.is_empty() {
-        return Ok(usual);
+        return Ok(795);
     }
-    let [given] = figures::<1>(rest)?;
-    Ok(given)
+    let [size] = figures::<1>(rest)?;
+    Ok(size)
 }
 
 // A book to read, as one word of hexadecimal.
-fn read_bytes<'a>(heap: Global, rest: &[&'a str]) -> Result<Call, Failure<'a>>
-    ensures { IfOk result (λ c. Names (codes "read") rest.now c) }
-{
+fn read_bytes<'a>(heap: Global, rest: &[&'a str]) -> Result<Result<Call, Misread<'a>>, AllocError> {
     let [word] = rest else {
-        return Err(Failure::Misread(Misread::Count {
+        return Ok(Err(Misread::Count {
             wanted: 1,
             given: rest.len(),
         }));
     };
-    let found = match bytes_of(heap, word) {
-        Ok(found) => found,
-        Err(error) => return Err(Failure::Memory(error)),
-    };
-    match found {
-        Some(bytes) => Ok(Call::Read(bytes)),
-        None => Err(Failure::Misread(Misread::NoBytes(word))),
+    match bytes_of(heap, word)? {
+        Some(bytes) => Ok(Ok(Call::Read(bytes))),
+        None => Ok(Err(Misread::NoBytes(word))),
     }
 }
 
-// Lengths to examine, as many as are given.
-fn read_lengths<'a>(heap: Global, rest: &[&'a str]) -> Result<Call, Failure<'a>>
-    ensures { IfOk result (λ c. Names (codes "examine") rest.now c) }
-{
-    let mut lengths = Vec::new(heap);
-    for i in 0..rest.len() {
-        let length = match figure(rest[i]) {
-            Ok(length) => length,
-            Err(misread) => return Err(Failure::Misread(misread)),
-        };
-        if let Err(refused) = lengths.push(length) {
-            return Err(Failure::Memory(refused.into()));
-        }
-    }
-    Ok(Call::Examine(lengths))
-}
-
-// The call that a line makes; a book's bytes and lengths to examine are set aside for it.
-pub fn call_of<'a>(heap: Global, name: &'a str, rest: &[&'a str]) -> Result<Call, Failure<'a>>
-    ensures { IfOk result (λ c. Names name.now rest.now c) }
-{
+// The call that a line makes; a book's bytes are set aside for it.
+pub fn call_of<'a>(
+    heap: Global,
+    name: &'a str,
+    rest: &[&'a str],
+) -> Result<Result<Call, Misread<'a>>, AllocError> {
     match name {
         "read" => read_bytes(heap, rest),
-        "examine" => read_lengths(heap, rest),
-        _ => match read_call(name, rest) {
-            Ok(call) => Ok(call),
-            Err(misread) => Err(Failure::Misread(misread)),
-        },
-    }
-}
-
-// The calls on a sheet.
-fn read_sheet_call<'a>(name: &'a str, rest: &[&'a str]) -> Result<Call, Misread<'a>>
-    ensures { IfOk result (λ c. Names name.now rest.now c) }
-{
-    match name {
-        "begin" => {
-            let [first, spacing, size] = figures::<3>(rest)?;
-            Ok(Call::Begin {
-                first,
-                spacing,
-                size,
-            })
-        }
-        "next" => {
-            let [] = figures::<0>(rest)?;
-            Ok(Call::Next)
-        }
-        "end" => {
-            let [] = figures::<0>(rest)?;
-            Ok(Call::End)
-        }
-        _ => Err(Misread::UnknownCall(name)),
+        _ => Ok(read_call(name, rest)),
     }
 }
 
 // The call that the words make: its name, then its figures.
-fn read_call<'a>(name: &'a str, rest: &[&'a str]) -> Result<Call, Misread<'a>>
-    ensures { IfOk result (λ c. Names name.now rest.now c) }
-{
+fn read_call<'a>(name: &'a str, rest: &[&'a str]) -> Result<Call, Misread<'a>> {
     match name {
         "new" => {
             let [] = figures::<0>(rest)?;
@@ -221,21 +156,9 @@ fn read_call<'a>(name: &'a str, rest: &[&'a str]) -> Result<Call, Misread<'a>>
         }
         "use" => Ok(Call::Use(read_choice(rest)?)),
         "book" => Ok(Call::Book {
-            size: figure_or(rest, 795)?,
+            size: read_size(rest)?,
         }),
-        "fit" => Ok(Call::Fit {
-            words: figure_or(rest, 16_040)?,
-        }),
-        "length" => {
-            let [peg] = figures::<1>(rest)?;
-            Ok(Call::Length { peg })
-        }
-        "level" => {
-            let [station] = figures::<1>(rest)?;
-            Ok(Call::Level { station })
-        }
         "grade" | "curve" | "shortest" => Ok(Call::Ask(read_inquiry(name, rest)?)),
-        "begin" | "next" | "end" => read_sheet_call(name, rest),
         _ => Ok(Call::Edit(read_edit(name, rest)?)),
     }
 }

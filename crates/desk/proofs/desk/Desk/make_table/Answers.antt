@@ -16,5 +16,4 @@ returns c =
       profile = refl;
       irc = refl;
       choice = refl;
-      sheet = refl;
     }

@@ -1,10 +1,10 @@
-use Rattle.std.proofs.Common.{None, Err, refl, ap}
+use Rattle.std.proofs.Common.{Err, refl, ap}
 use Rattle.profile.proofs.Answered.{err_or_ok, ok_or_err, same_err, same_ok}
 use Rattle.profile.proofs.Kept.{from_book, parts}
 use Rattle.profile.proofs.profile.Profile.read_book.Goals as goal
 
 pub invariant_of-self : goal.invariant_of-self
-invariant_of-self c = parts c.in-Ok.tables None (from_book c.in-Ok.tables c.in-Ok.ensures.reads.0) refl
+invariant_of-self c = parts c.in-Ok.tables (from_book c.in-Ok.tables c.in-Ok.ensures.reads.0)
 
 pub returns-in-Ok : goal.returns-in-Ok
 returns-in-Ok c =
