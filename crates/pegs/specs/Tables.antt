@@ -1,13 +1,11 @@
 -- What an edit does to the tables. Assumes nothing.
-use Rattle.std.specs.Prelude.{◌≡◌, ℕ, ◌<◌, replicate, Some, None, Ok, Err, Option, Result, slice_index_or, slice_set}
+use Rattle.std.specs.Prelude.{◌≡◌, ℕ, ◌<◌, replicate, Some, None, Ok, Err, Result, slice_index_or, slice_set}
 use Rattle.pegs.specs.declared.edit.Edit.{Edit}
 use Rattle.pegs.specs.declared.edit.Edit.TheVariants.{Place, Lift, Fix, Clear}
 use Rattle.pegs.specs.declared.edit.EditRefusal.{EditRefusal}
 use Rattle.pegs.specs.declared.edit.EditRefusal.TheVariants.{NumberTooHigh, SequenceZero, StationTooHigh, LevelTooHigh, LowAboveHigh, SequenceLower, SequenceEqual}
 use Rattle.pegs.specs.declared.peg.FixedLevel.{FixedLevel}
 use Rattle.pegs.specs.declared.peg.Peg.{Peg}
-use Rattle.pegs.specs.declared.slot.Late.{Late}
-use Rattle.pegs.specs.declared.slot.Late.TheVariants.{Lower, Equal}
 use Rattle.pegs.specs.declared.slot.Slot.{Slot}
 use Rattle.pegs.specs.declared.tables.Tables.{Tables}
 use Rattle.pegs.specs.Edits.{FormRefused, WellFormed, sequence}
@@ -29,18 +27,6 @@ with_peg t n x = record { pegs = slice_set t.pegs n x; fixed = t.fixed }
 
 abbrev pub with_fixed : Tables → ℕ → Slot FixedLevel → Tables
 with_fixed t n x = record { pegs = t.pegs; fixed = slice_set t.fixed n x }
-
--- a slot with this last number is offered another: the tables become those taken, or stay
-abbrev pub Offered : (last s : ℕ) → Tables → Tables → Tables → Result (Unit {0}) Late → Type 0
-Offered last s taken b a (Ok u) = (last < s) × (a ≡ taken)
-Offered last s taken b a (Err Lower) = (s < last) × (a ≡ b)
-Offered last s taken b a (Err Equal) = (s ≡ last) × (a ≡ b)
-
-abbrev pub PegUpdated : Tables → ℕ → ℕ → Option Peg → Tables → Result (Unit {0}) Late → Type 0
-PegUpdated b n s v a r = Offered (peg_slot b n).last s (with_peg b n (record { last = s; held = v })) b a r
-
-abbrev pub FixedUpdated : Tables → ℕ → ℕ → Option FixedLevel → Tables → Result (Unit {0}) Late → Type 0
-FixedUpdated b n s v a r = Offered (fixed_slot b n).last s (with_fixed b n (record { last = s; held = v })) b a r
 
 -- the sequence number that the edit's slot remembers
 abbrev pub remembered : Edit → Tables → ℕ

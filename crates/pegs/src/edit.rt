@@ -58,9 +58,11 @@ impl EditRefusal {
             EditRefusal::SequenceEqual => 21,
         }
     }
+}
 
-    fn words(self) -> &'static str {
-        match self {
+impl fmt::Display for EditRefusal {
+    fn fmt<W: fmt::Write>(&self, f: &mut fmt::Formatter<W>) -> fmt::Result {
+        f.write_str(match self {
             EditRefusal::NumberTooHigh => "the number is above 39 for a peg, 15 for a fixed level",
             EditRefusal::SequenceZero => "the sequence number is 0",
             EditRefusal::StationTooHigh => "the station is above 10000 m",
@@ -68,13 +70,7 @@ impl EditRefusal {
             EditRefusal::LowAboveHigh => "the low bound is above the high one",
             EditRefusal::SequenceLower => "a newer edit stands: this one came late",
             EditRefusal::SequenceEqual => "an edit with this sequence number stands already",
-        }
-    }
-}
-
-impl fmt::Display for EditRefusal {
-    fn fmt<W: fmt::Write>(&self, f: &mut fmt::Formatter<W>) -> fmt::Result {
-        f.write_str(self.words())
+        })
     }
 }
 
