@@ -43,14 +43,9 @@ impl Profile {
         ensures back { ReadBack bytes.now self.new result }
         ensures told { FaultTold bytes.now result }
     {
-        match read(bytes) {
-            Ok(tables) => {
-                self.tables = tables;
-                self.fitted = None;
-                Ok(())
-            }
-            Err(fault) => Err(fault),
-        }
+        self.tables = read(bytes)?;
+        self.fitted = None;
+        Ok(())
     }
 
     // Writes the profile's book at the front of a buffer and tells its length, at most 795 bytes.
@@ -67,10 +62,7 @@ impl Profile {
         ensures value { result ≡ (peg_slot self.now.tables number).held }
         ensures history { (h : List Event) → Run h self.now → AsEdited h self.now }
     {
-        if number < 40 {
-            return self.tables.pegs[number as usize].held;
-        }
-        None
+        self.tables.pegs.get(number as usize)?.held
     }
 
     // The fixed level of this number, likewise.
@@ -78,10 +70,7 @@ impl Profile {
         ensures value { result ≡ (fixed_slot self.now.tables number).held }
         ensures history { (h : List Event) → Run h self.now → AsEdited h self.now }
     {
-        if number < 16 {
-            return self.tables.fixed[number as usize].held;
-        }
-        None
+        self.tables.fixed.get(number as usize)?.held
     }
 
     // A law for callers: edits that arrive in another order leave the same profile.
