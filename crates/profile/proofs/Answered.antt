@@ -4,11 +4,5 @@ use Rattle.std.proofs.Common.{◌≡◌, ℕ, Ok, Err, Result, arith}
 pub ok_or_err : {X Y : Type 0} (x : X) (y : Y) → ◌≡◌ {A = Result X Y} (Ok x) (Err y) → ⊥
 ok_or_err x y e = let z : ◌≡◌ {A = ℕ} 0 1 = cc in omega arith
 
-pub err_or_ok : {X Y : Type 0} (x : X) (y : Y) → ◌≡◌ {A = Result X Y} (Err y) (Ok x) → ⊥
-err_or_ok x y e = let z : ◌≡◌ {A = ℕ} 0 1 = cc in omega arith
-
-pub same_ok : {X Y : Type 0} (x z : X) → ◌≡◌ {A = Result X Y} (Ok x) (Ok z) → x ≡ z
-same_ok x z e = cc
-
 pub same_err : {X Y : Type 0} (y z : Y) → ◌≡◌ {A = Result X Y} (Err y) (Err z) → y ≡ z
 same_err y z e = cc
