@@ -1,6 +1,5 @@
 -- An edit keeps what holds of every slot. Assumes nothing.
-use Rattle.std.proofs.Common.{◌≡◌, ℕ, zero, suc, ◌^◌, ◌<◌, ◌≤◌, false, List, [], ◌∷◌, length, get_or, set, replicate, is_some, Some, None, Ok, Err, Option, Result, sym, refl, ap, ◌∙◌, subst, arith, length-set}
-use Rattle.book.specs.Sound.{Sound}
+use Rattle.std.proofs.Common.{◌≡◌, ℕ, zero, suc, ◌^◌, ◌<◌, ◌≤◌, false, List, [], ◌∷◌, length, get_or, set, replicate, is_some, Some, None, Ok, Err, Option, Result, sym, refl, ◌∙◌, subst, arith, length-set}
 use Rattle.pegs.specs.Edits.{WellFormed}
 use Rattle.pegs.specs.Slots.{untouched}
 use Rattle.pegs.specs.Tables.{Edited, fixed_slot, no_tables, peg_slot, written}
@@ -129,32 +128,7 @@ parts t s = record {
   fixed_untouched = λ n. (s.fixed n).untouched_empty;
 }
 
--- an option that is empty has no value
-none_held : {V : Type 0} (o : Option V) → o ≡ None → is_some o ≡ false
-none_held o e = ap is_some e
-
--- what is read from a book is sound in a profile's own words, and a profile's tables are sound in the book's
-pub from_book : (t : Tables) → Sound t → TablesSound t
-from_book t s = record {
-  forty = s.peg_count;
-  sixteen = s.fixed_count;
-  pegs = λ n. record { fine = s.peg_good n; fit = s.peg_fits n; untouched_empty = λ z. none_held (peg_slot t n).held (s.peg_never n z) };
-  fixed = λ n. record { fine = s.fixed_good n; fit = s.fixed_fits n; untouched_empty = λ z. none_held (fixed_slot t n).held (s.fixed_never n z) };
-}
-
 -- an option without a value
 pub nothing_held : {V : Type 0} (o : Option V) → is_some o ≡ false → o ≡ None
 nothing_held None e = refl
 nothing_held (Some x) e = let z : ◌≡◌ {A = ℕ} 0 1 = cc in absurd (omega arith)
-
-pub to_book : (t : Tables) → TablesSound t → Sound t
-to_book t s = record {
-  peg_count = s.forty;
-  peg_fits = λ n. (s.pegs n).fit;
-  peg_never = λ n z. nothing_held (peg_slot t n).held ((s.pegs n).untouched_empty z);
-  peg_good = λ n. (s.pegs n).fine;
-  fixed_count = s.sixteen;
-  fixed_fits = λ n. (s.fixed n).fit;
-  fixed_never = λ n z. nothing_held (fixed_slot t n).held ((s.fixed n).untouched_empty z);
-  fixed_good = λ n. (s.fixed n).fine;
-}

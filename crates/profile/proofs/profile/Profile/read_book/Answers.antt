@@ -1,10 +1,6 @@
 use Rattle.std.proofs.Common.{◌≡◌, Err, ap, ◌∙◌, rules}
 use Rattle.profile.proofs.Answered.{ok_or_err, same_err}
-use Rattle.profile.proofs.Kept.{from_book, parts}
 use Rattle.profile.proofs.profile.Profile.read_book.Goals as goal
-
-pub invariant_of-self : goal.invariant_of-self
-invariant_of-self c = parts c.in_ok-self.field-0 (from_book c.in_ok-self.field-0 c.in_ok-self.ensures.reads.0)
 
 pub returns-clause-told : goal.returns-clause-told
 returns-clause-told c = λ x f. absurd (ok_or_err c.in_ok-self.field-0 x (c.in_ok-self.ensures.told x f))
