@@ -6,6 +6,7 @@ use crate::edit::{Edit, EditRefusal};
 use crate::peg::{FixedLevel, Peg};
 use crate::slot::Slot;
 
+// stays: arrays, since a profile holds so many numbered slots and never needs memory
 #[derive(Clone, Copy)]
 pub struct Tables {
     pub pegs: [Slot<Peg>; 40],

@@ -66,6 +66,7 @@ impl Profile {
     }
 
     // The fixed level of this number, likewise.
+    // stays: a call beside `peg` for the other table, one line each: a trait of what is held would be longer than both
     pub fn fixed_level(&self, number: u32) -> Option<FixedLevel>
         ensures value { result ≡ (fixed_slot self.now.tables number).held }
         ensures history { (h : List Event) → Run h self.now → AsEdited h self.now }
