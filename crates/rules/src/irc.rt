@@ -219,7 +219,7 @@ impl Irc {
     pub fn new(figures: RoadFigures) -> Result<Irc, Refusal>
         ensures { MatchResult result (λ code. Named figures code.road) (λ e. IrcRefused figures e) }
     {
-        let road = Road::named(figures)?;
+        let road = Road::try_from(figures)?;
         if let Sight::Overtaking = road.sight {
             if asked_of(road).kmh < 40 {
                 return Err(Refusal::OvertakingTooSlow);
