@@ -3,7 +3,7 @@ ghost use Rattle.std.specs.Prelude.{◌≡◌, ◌+◌, ◌≤◌, [], ◌∷◌
 ghost use Rattle.rules.specs.Points.{PointsRefused, PointsSound};
 ghost use Rattle.rules.specs.Turns.{base as base_of, bend_of, change as change_of, kind as kind_of, twist as twist_of};
 
-use crate::point::Point;
+use crate::point::{Point, sound};
 use crate::refusal::Refusal;
 
 // Which way the road turns: over a hill top, or through a hollow.
@@ -47,21 +47,13 @@ impl Turn {
     pub fn through(before: Point, at: Point, after: Point) -> Result<Turn, Refusal>
         ensures { MatchResult result (λ t. PointsSound (before ∷ (at ∷ (after ∷ []))) × (t.bend ≡ bend_of before at after)) (λ e. PointsRefused (before ∷ (at ∷ (after ∷ []))) e) }
     {
-        if before.station > 10_000 || at.station > 10_000 || after.station > 10_000 {
-            return Err(Refusal::StationTooHigh);
-        }
-        if before.level > 9_000_000 || at.level > 9_000_000 || after.level > 9_000_000 {
-            return Err(Refusal::LevelTooHigh);
-        }
-        if at.station < before.station + 10 || after.station < at.station + 10 {
-            return Err(Refusal::StationsNotRising);
-        }
+        sound(&[before, at, after])?;
         Ok(Turn {
             bend: Bend {
-                rise_in: at.level as i64 - before.level as i64,
-                run_in: at.station - before.station,
-                rise_out: after.level as i64 - at.level as i64,
-                run_out: after.station - at.station,
+                rise_in: before.rise_to(at),
+                run_in: before.run_to(at),
+                rise_out: at.rise_to(after),
+                run_out: at.run_to(after),
             },
         })
     }
