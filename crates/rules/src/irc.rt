@@ -1,10 +1,10 @@
 // The road code of the Indian standard.
 ghost use Rattle.std.specs.Prelude.{◌≡◌, ◌≤◌, MatchResult};
-ghost use Rattle.rules.specs.Irc.{ClauseOf, IrcRefused, OvertakingGiven, clause_number, curve_by, grade_within, irc_curve, irc_grade, gradient_limit, seen, sight_rule};
+ghost use Rattle.rules.specs.Irc.{ClauseOf, IrcRefused, OvertakingGiven, clause_number, grade_within, irc_curve, irc_grade, gradient_limit, seen, sight_rule};
 ghost use Rattle.rules.specs.Laws.{LongerStillPasses};
 ghost use Rattle.rules.specs.Roads.{Named};
-ghost use Rattle.rules.specs.Speeds.{WithinTable, asked as asked_at, design_speed};
-ghost use Rattle.rules.specs.Told.{Told};
+ghost use Rattle.rules.specs.Speeds.{asked as asked_at, design_speed};
+ghost use Rattle.rules.specs.Turns.{base as base_of, change as change_of};
 
 use crate::clause::ClauseNumber;
 use crate::code::RoadCode;
@@ -74,22 +74,16 @@ impl TryFrom<u8> for Clause {
     }
 }
 
-impl Clause {
-    fn words(self) -> &'static str {
-        match self {
+impl fmt::Display for Clause {
+    fn fmt<W: fmt::Write>(&self, f: &mut fmt::Formatter<W>) -> fmt::Result {
+        f.write_str(match self {
             Clause::Gradient => "the grade is too steep",
             Clause::LeastLength => "the curve is under the least length",
             Clause::StoppingSight => "the summit is too short for stopping sight",
             Clause::IntermediateSight => "the summit is too short for intermediate sight",
             Clause::OvertakingSight => "the summit is too short for overtaking sight",
             Clause::ValleySight => "the valley is too short for headlight sight",
-        }
-    }
-}
-
-impl fmt::Display for Clause {
-    fn fmt<W: fmt::Write>(&self, f: &mut fmt::Formatter<W>) -> fmt::Result {
-        f.write_str(self.words())
+        })
     }
 }
 
@@ -168,42 +162,20 @@ fn rule_for(road: Road, kind: Kind) -> SightRule
     }
 }
 
-// Whether a curve of this length lets the distance be seen.
-fn sees(rule: SightRule, change: u64, base: u64, length: u64) -> bool
-    requires rule { (rule.distance ≤ 640) × (rule.q ≤ 9600) }
-    requires turn { (change ≤ 180000000000) × ((base ≤ 100000000) × (length ≤ 2000)) }
-    ensures { result ≡ seen rule.distance rule.q change base length }
-{
-    let s = rule.distance as u64;
-    let q = rule.q as u64;
-    if length >= s {
-        change * (s * s) <= length * q * base
-    } else {
-        (2 * s - length) * change <= q * base
-    }
-}
-
-// Whether a curve passes, or the clause that refuses it: free change first, then the least length, then the rule of sight.
-fn judge(
-    asked: Asked,
-    rule: SightRule,
-    change: u64,
-    base: u64,
-    length: u32,
-) -> Result<(), ClauseNumber>
-    requires asked { WithinTable asked }
-    requires rule { (rule.distance ≤ 640) × (rule.q ≤ 9600) }
-    requires turn { (change ≤ 180000000000) × ((base ≤ 100000000) × (length ≤ 2000)) }
-    ensures { Told (curve_by asked rule change base length) result }
-{
-    if change <= asked.free_change as u64 * base {
-        Ok(())
-    } else if length < asked.least_length {
-        Err(Clause::LeastLength.into())
-    } else if sees(rule, change, base, length as u64) {
-        Ok(())
-    } else {
-        Err(rule.clause.into())
+impl SightRule {
+    // Whether a curve of this length lets the distance be seen.
+    fn sees(self, turn: Turn, at: Length) -> bool
+        requires { (self.distance ≤ 640) × (self.q ≤ 9600) }
+        ensures { result ≡ seen self.distance self.q (change_of turn.bend) (base_of turn.bend) at.metres }
+    {
+        let s = self.distance as u64;
+        let length = at.metres as u64;
+        let reach = self.q as u64 * turn.base();
+        if length >= s {
+            turn.change() * (s * s) <= length * reach
+        } else {
+            (2 * s - length) * turn.change() <= reach
+        }
     }
 }
 
@@ -254,9 +226,20 @@ impl RoadCode for Irc {
         }
     }
 
+    // Free change first, then the least length, then the rule of sight.
     fn curve(&self, turn: Turn, at: Length) -> Result<(), ClauseNumber> {
         let asked = asked_of(self.road);
+        if turn.change() <= asked.free_change as u64 * turn.base() {
+            return Ok(());
+        }
+        if at.metres < asked.least_length {
+            return Err(Clause::LeastLength.into());
+        }
         let rule = rule_for(self.road, turn.kind());
-        judge(asked, rule, turn.change(), turn.base(), at.metres)
+        if rule.sees(turn, at) {
+            Ok(())
+        } else {
+            Err(rule.clause.into())
+        }
     }
 }
