@@ -1,7 +1,7 @@
 // A turn: a point with a neighbour on each side, where one grade meets the next.
 ghost use Rattle.std.specs.Prelude.{◌≡◌, ◌+◌, ◌≤◌, [], ◌∷◌, pos, ◌*ℤ◌, MatchResult, unsigned_abs};
 ghost use Rattle.rules.specs.Points.{PointsRefused, PointsSound};
-ghost use Rattle.rules.specs.Turns.{base as base_of, bend_of, change as change_of, kind as kind_of, twist as twist_of};
+ghost use Rattle.rules.specs.Turns.{base as base_of, bend_of, change as change_of, kind as kind_of, kind_number, twist as twist_of};
 
 use crate::point::{Point, sound};
 use crate::refusal::Refusal;
@@ -11,6 +11,18 @@ use crate::refusal::Refusal;
 pub enum Kind {
     Summit,
     Valley,
+}
+
+// The figure that rows of a length table know a kind by.
+impl From<Kind> for u32 {
+    ghost from_gives = { λ kind figure. figure ≡ kind_number kind };
+
+    fn from(kind: Kind) -> u32 {
+        match kind {
+            Kind::Summit => 0,
+            Kind::Valley => 1,
+        }
+    }
 }
 
 // The four figures of a turn, of any size.
