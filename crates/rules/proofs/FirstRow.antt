@@ -1,5 +1,5 @@
 -- In a length table the first row that reaches a turn decides. Assumes nothing.
-use Rattle.std.proofs.Common.{◌≡◌, ℕ, ◌<◌, true, false, List, Option, Some, None, find, length, refl, rules}
+use Rattle.std.proofs.Common.{◌≡◌, ℕ, ◌<◌, true, false, List, Some, None, find, length, refl, rules}
 use borrow.Author.Tests.{tests}
 use Rattle.std.proofs.lemmas.List.Recursion.{found_at, found_nowhere}
 use Rattle.rules.specs.Tables.{Reaches, fits, no_row, row_at}

@@ -71,6 +71,7 @@ impl Turn {
     }
 
     // How the outgoing grade differs from the incoming one, over both runs: below zero at a summit.
+    #[tactic(auto, unfolding(crate::specs::Turns::twist))]
     fn twist(&self) -> i64
         ensures value { result ≡ twist_of self.now.bend }
         ensures small { unsigned_abs result ≤ 180000000000 }
@@ -79,6 +80,7 @@ impl Turn {
     }
 
     // The change of grade, in thousandths over the base.
+    #[tactic(auto, unfolding(crate::specs::Turns::change))]
     pub fn change(&self) -> u64
         ensures value { result ≡ change_of self.now.bend }
         ensures small { result ≤ 180000000000 }
@@ -87,6 +89,7 @@ impl Turn {
     }
 
     // Both runs multiplied.
+    #[tactic(auto, unfolding(crate::specs::Turns::base))]
     pub fn base(&self) -> u64
         ensures value { result ≡ base_of self.now.bend }
         ensures small { result ≤ 100000000 }
@@ -95,6 +98,7 @@ impl Turn {
     }
 
     // Summit or valley.
+    #[tactic(auto, unfolding(crate::specs::Turns::kind))]
     pub fn kind(&self) -> Kind
         ensures { result ≡ kind_of self.now.bend }
     {
