@@ -1,5 +1,5 @@
 -- The five figures of a road, and what each stands for. Assumes nothing.
-use Rattle.std.specs.Prelude.{◌≡◌, ℕ, ◌<◌}
+use Rattle.std.specs.Prelude.{◌≡◌, ℕ, ◌<◌, ◌≤◌, Result, MatchResult}
 use Rattle.rules.specs.declared.road.Class.{Class}
 use Rattle.rules.specs.declared.road.Class.TheVariants as class
 use Rattle.rules.specs.declared.road.Terrain.{Terrain}
@@ -12,6 +12,8 @@ use Rattle.rules.specs.declared.road.Sight.{Sight}
 use Rattle.rules.specs.declared.road.Sight.TheVariants as sight
 use Rattle.rules.specs.declared.road.RoadFigures.{RoadFigures}
 use Rattle.rules.specs.declared.road.Road.{Road}
+use Rattle.rules.specs.declared.refusal.Refusal.{Refusal}
+use Rattle.rules.specs.declared.refusal.Refusal.TheVariants.{UnknownRoadFigure}
 
 abbrev pub class_figure : Class → ℕ
 class_figure class.NhSh = 0
@@ -54,3 +56,11 @@ pub record Named (f : RoadFigures) (r : Road) : Type 0 where
   pub speed : speed_figure r.speed ≡ f.speed
   pub gradient : gradient_figure r.gradient ≡ f.gradient
   pub sight : sight_figure r.sight ≡ f.sight
+
+-- the kind that has this figure, or a refusal where the figure isn't below so many
+abbrev pub KindOf : {K : Type 0} → (K → ℕ) → ℕ → ℕ → Result K Refusal → Type 0
+KindOf number many figure r = MatchResult r (λ kind. number kind ≡ figure) (λ e. (e ≡ UnknownRoadFigure) × (many ≤ figure))
+
+-- the road that the figures name, or a refusal where one of them is unknown
+abbrev pub RoadOf : RoadFigures → Result Road Refusal → Type 0
+RoadOf f r = MatchResult r (λ road. Named f road) (λ e. (e ≡ UnknownRoadFigure) × (Known f → ⊥))

@@ -1,40 +1,33 @@
 -- Length tables: which are lawful, and their verdicts, over any rows. Assumes nothing.
-use Rattle.std.specs.Prelude.{◌≡◌, ℕ, ◌*◌, ◌<◌, ◌≤◌, min, Bool, cond, ◌&&◌, List, [], ◌∷◌, length, ℤ, ◌==◌, nat_le, nat_lt, slice_index_or, unsigned_abs}
+use Rattle.std.specs.Prelude.{◌≡◌, ℕ, ◌*◌, ◌<◌, ◌≤◌, min, Bool, cond, ◌&&◌, List, find, length, Option, None, Some, ℤ, ◌==◌, nat_le, nat_lt, slice_index_or, unsigned_abs}
 use Rattle.rules.specs.declared.refusal.Refusal.{Refusal}
 use Rattle.rules.specs.declared.refusal.Refusal.TheVariants.{StationTooHigh, LevelTooHigh, UnknownRoadFigure, OvertakingTooSlow, UnlawfulTable, LengthOutOfStep, StationsNotRising}
 use Rattle.rules.specs.declared.refusal.TableFault.{TableFault}
 use Rattle.rules.specs.declared.refusal.TableFault.TheVariants as fault
 use Rattle.rules.specs.declared.table.Row.{Row}
 use Rattle.rules.specs.declared.turn.Bend.{Bend}
-use Rattle.rules.specs.declared.turn.Kind.{Kind}
-use Rattle.rules.specs.declared.turn.Kind.TheVariants.{Summit, Valley}
-use Rattle.rules.specs.Turns.{base, change, kind}
-
--- the figure that rows know a kind by
-abbrev pub kind_number : Kind → ℕ
-kind_number Summit = 0
-kind_number Valley = 1
+use Rattle.rules.specs.Turns.{base, change, kind, kind_number}
 
 -- the clause where no row reaches a turn's change of grade
 abbrev pub no_row_clause : ℕ
 no_row_clause = 255
 
--- a row is for this kind, and its bound reaches this change of grade
-abbrev pub fits : (kind change base : ℕ) → Row → Bool
-fits k w b row = row.kind == k && nat_le w (row.change * b)
+-- a row is of the turn's kind, and its bound reaches the turn's change of grade
+abbrev pub fits : Bend → Row → Bool
+fits t row = row.kind == kind_number (kind t) && nat_le (change t) (row.change * base t)
 
 -- what the row that decides says of a length; a clause that a code can't tell, which no lawful table has, is told as 255
 abbrev pub row_verdict : Row → ℕ → ℕ
 row_verdict row l = cond (nat_lt l row.least) (min row.clause 255) 0
 
--- the first row that fits decides
-abbrev pub verdict_of : (kind change base : ℕ) → List Row → ℕ → ℕ
-verdict_of k w b [] l = no_row_clause
-verdict_of k w b (row ∷ rows) l = cond (fits k w b row) (row_verdict row l) (verdict_of k w b rows l)
+-- what a table says of a length where this row decides, or none does
+abbrev pub verdict_of : Option Row → ℕ → ℕ
+verdict_of None l = no_row_clause
+verdict_of (Some row) l = row_verdict row l
 
--- the verdict on a curve
+-- the verdict on a curve: the first row that fits decides
 abbrev pub table_curve : List Row → Bend → ℕ → ℕ
-table_curve rows t l = verdict_of (kind_number (kind t)) (change t) (base t) rows l
+table_curve rows t l = verdict_of (find (fits t) rows) l
 
 -- the verdict on a grade
 abbrev pub table_grade : (bound clause : ℕ) → ℤ → ℕ → ℕ

@@ -25,3 +25,8 @@ change b = unsigned_abs (twist b)
 -- W below zero is a summit, else a valley
 unfoldable pub kind : Bend → Kind
 kind b = cond (int_lt (twist b) (pos 0)) Summit Valley
+
+-- the figure that rows of a length table know a kind by
+abbrev pub kind_number : Kind → ℕ
+kind_number Summit = 0
+kind_number Valley = 1

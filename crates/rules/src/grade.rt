@@ -2,7 +2,7 @@
 ghost use Rattle.std.specs.Prelude.{◌≡◌, ◌≤◌, [], ◌∷◌, MatchResult, unsigned_abs};
 ghost use Rattle.rules.specs.Points.{PointsRefused, PointsSound, rise as rise_of, run as run_of};
 
-use crate::point::Point;
+use crate::point::{Point, sound};
 use crate::refusal::Refusal;
 
 // Millimetres up (below zero: down) over metres along.
@@ -20,18 +20,10 @@ impl Grade {
     pub fn between(from: Point, to: Point) -> Result<Grade, Refusal>
         ensures { MatchResult result (λ g. PointsSound (from ∷ (to ∷ [])) × (g.rise ≡ rise_of from to) × (g.run ≡ run_of from to)) (λ e. PointsRefused (from ∷ (to ∷ [])) e) }
     {
-        if from.station > 10_000 || to.station > 10_000 {
-            return Err(Refusal::StationTooHigh);
-        }
-        if from.level > 9_000_000 || to.level > 9_000_000 {
-            return Err(Refusal::LevelTooHigh);
-        }
-        if to.station < from.station + 10 {
-            return Err(Refusal::StationsNotRising);
-        }
+        sound(&[from, to])?;
         Ok(Grade {
-            rise: to.level as i64 - from.level as i64,
-            run: to.station - from.station,
+            rise: from.rise_to(to),
+            run: from.run_to(to),
         })
     }
 }

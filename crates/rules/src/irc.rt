@@ -1,11 +1,12 @@
 // The road code of the Indian standard.
-ghost use Rattle.std.specs.Prelude.{◌≡◌, ◌≤◌, MatchOption, MatchResult, ◌≢◌};
-ghost use Rattle.rules.specs.declared.irc.Clause.{Clause};
-ghost use Rattle.rules.specs.Irc.{IrcRefused, OvertakingGiven, clause_number, curve_by, grade_within, irc_curve, irc_grade, gradient_limit, seen, sight_rule};
+ghost use Rattle.std.specs.Prelude.{◌≡◌, ◌≤◌, MatchResult};
+ghost use Rattle.rules.specs.Irc.{ClauseOf, IrcRefused, OvertakingGiven, clause_number, grade_within, irc_curve, irc_grade, gradient_limit, seen, sight_rule};
 ghost use Rattle.rules.specs.Laws.{LongerStillPasses};
 ghost use Rattle.rules.specs.Roads.{Named};
-ghost use Rattle.rules.specs.Speeds.{WithinTable, asked as asked_at, design_speed};
+ghost use Rattle.rules.specs.Speeds.{asked as asked_at, design_speed};
+ghost use Rattle.rules.specs.Turns.{base as base_of, change as change_of};
 
+use crate::clause::ClauseNumber;
 use crate::code::RoadCode;
 use crate::grade::Grade;
 use crate::length::Length;
@@ -39,39 +40,50 @@ impl Clause {
             Clause::ValleySight => 6,
         }
     }
+}
 
-    // The clause that is told by a number; none by any other.
-    pub fn told_by(number: u8) -> Option<Clause>
-        ensures { MatchOption result ((x : Clause) → clause_number x ≢ number) (λ x. clause_number x ≡ number) }
-    {
-        match number {
-            1 => Some(Clause::Gradient),
-            2 => Some(Clause::LeastLength),
-            3 => Some(Clause::StoppingSight),
-            4 => Some(Clause::IntermediateSight),
-            5 => Some(Clause::OvertakingSight),
-            6 => Some(Clause::ValleySight),
-            _ => None,
+impl From<Clause> for ClauseNumber {
+    ghost from_gives = { λ clause told. told.number ≡ clause_number clause };
+
+    fn from(clause: Clause) -> ClauseNumber {
+        ClauseNumber {
+            number: clause.number(),
         }
     }
 }
 
-impl Clause {
-    fn words(self) -> &'static str {
-        match self {
-            Clause::Gradient => "the grade is too steep",
-            Clause::LeastLength => "the curve is under the least length",
-            Clause::StoppingSight => "the summit is too short for stopping sight",
-            Clause::IntermediateSight => "the summit is too short for intermediate sight",
-            Clause::OvertakingSight => "the summit is too short for overtaking sight",
-            Clause::ValleySight => "the valley is too short for headlight sight",
+// A number that tells no clause.
+#[derive(Clone, Copy)]
+pub struct UnknownClause(pub u8);
+
+impl TryFrom<u8> for Clause {
+    type Error = UnknownClause;
+
+    ghost try_from_gives = { ClauseOf };
+
+    fn try_from(number: u8) -> Result<Self, UnknownClause> {
+        match number {
+            1 => Ok(Clause::Gradient),
+            2 => Ok(Clause::LeastLength),
+            3 => Ok(Clause::StoppingSight),
+            4 => Ok(Clause::IntermediateSight),
+            5 => Ok(Clause::OvertakingSight),
+            6 => Ok(Clause::ValleySight),
+            _ => Err(UnknownClause(number)),
         }
     }
 }
 
 impl fmt::Display for Clause {
     fn fmt<W: fmt::Write>(&self, f: &mut fmt::Formatter<W>) -> fmt::Result {
-        f.write_str(self.words())
+        f.write_str(match self {
+            Clause::Gradient => "the grade is too steep",
+            Clause::LeastLength => "the curve is under the least length",
+            Clause::StoppingSight => "the summit is too short for stopping sight",
+            Clause::IntermediateSight => "the summit is too short for intermediate sight",
+            Clause::OvertakingSight => "the summit is too short for overtaking sight",
+            Clause::ValleySight => "the valley is too short for headlight sight",
+        })
     }
 }
 
@@ -137,7 +149,7 @@ fn rule_for(road: Road, kind: Kind) -> SightRule
                 clause: Clause::IntermediateSight,
             },
             Sight::Overtaking => SightRule {
-                distance: asked.overtaking,
+                distance: asked.overtaking.unwrap_or(0),
                 q: 9600,
                 clause: Clause::OvertakingSight,
             },
@@ -150,36 +162,20 @@ fn rule_for(road: Road, kind: Kind) -> SightRule
     }
 }
 
-// Whether a curve of this length lets the distance be seen.
-fn sees(rule: SightRule, change: u64, base: u64, length: u64) -> bool
-    requires rule { (rule.distance ≤ 640) × (rule.q ≤ 9600) }
-    requires turn { (change ≤ 180000000000) × ((base ≤ 100000000) × (length ≤ 2000)) }
-    ensures { result ≡ seen rule.distance rule.q change base length }
-{
-    let s = rule.distance as u64;
-    let q = rule.q as u64;
-    if length >= s {
-        change * (s * s) <= length * q * base
-    } else {
-        (2 * s - length) * change <= q * base
-    }
-}
-
-// The clause that refuses a curve, or 0: free change first, then the least length, then the rule of sight.
-fn judge(asked: Asked, rule: SightRule, change: u64, base: u64, length: u32) -> u8
-    requires asked { WithinTable asked }
-    requires rule { (rule.distance ≤ 640) × (rule.q ≤ 9600) }
-    requires turn { (change ≤ 180000000000) × ((base ≤ 100000000) × (length ≤ 2000)) }
-    ensures { result ≡ curve_by asked rule change base length }
-{
-    if change <= asked.free_change as u64 * base {
-        0
-    } else if length < asked.least_length {
-        Clause::LeastLength.number()
-    } else if sees(rule, change, base, length as u64) {
-        0
-    } else {
-        rule.clause.number()
+impl SightRule {
+    // Whether a curve of this length lets the distance be seen.
+    fn sees(self, turn: Turn, at: Length) -> bool
+        requires { (self.distance ≤ 640) × (self.q ≤ 9600) }
+        ensures { result ≡ seen self.distance self.q (change_of turn.bend) (base_of turn.bend) at.metres }
+    {
+        let s = self.distance as u64;
+        let length = at.metres as u64;
+        let reach = self.q as u64 * turn.base();
+        if length >= s {
+            turn.change() * (s * s) <= length * reach
+        } else {
+            (2 * s - length) * turn.change() <= reach
+        }
     }
 }
 
@@ -195,7 +191,7 @@ impl Irc {
     pub fn new(figures: RoadFigures) -> Result<Irc, Refusal>
         ensures { MatchResult result (λ code. Named figures code.road) (λ e. IrcRefused figures e) }
     {
-        let road = Road::named(figures)?;
+        let road = Road::try_from(figures)?;
         if let Sight::Overtaking = road.sight {
             if asked_of(road).kmh < 40 {
                 return Err(Refusal::OvertakingTooSlow);
@@ -222,17 +218,28 @@ impl RoadCode for Irc {
 
     ghost curve_verdict = { λ c. irc_curve c.road };
 
-    fn grade(&self, grade: Grade) -> u8 {
+    fn grade(&self, grade: Grade) -> Result<(), ClauseNumber> {
         if limit_for(self.road).allows(grade) {
-            0
+            Ok(())
         } else {
-            Clause::Gradient.number()
+            Err(Clause::Gradient.into())
         }
     }
 
-    fn curve(&self, turn: Turn, at: Length) -> u8 {
+    // Free change first, then the least length, then the rule of sight.
+    fn curve(&self, turn: Turn, at: Length) -> Result<(), ClauseNumber> {
         let asked = asked_of(self.road);
+        if turn.change() <= asked.free_change as u64 * turn.base() {
+            return Ok(());
+        }
+        if at.metres < asked.least_length {
+            return Err(Clause::LeastLength.into());
+        }
         let rule = rule_for(self.road, turn.kind());
-        judge(asked, rule, turn.change(), turn.base(), at.metres)
+        if rule.sees(turn, at) {
+            Ok(())
+        } else {
+            Err(rule.clause.into())
+        }
     }
 }

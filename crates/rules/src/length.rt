@@ -1,5 +1,5 @@
 // The length of a curve.
-ghost use Rattle.std.specs.Prelude.{◌≡◌, ◌%◌, ◌≤◌, MatchResult};
+ghost use Rattle.std.specs.Prelude.{◌≡◌, ◌*◌, ◌%◌, ◌≤◌, MatchResult};
 ghost use Rattle.rules.specs.declared.refusal.Refusal.TheVariants.{LengthOutOfStep};
 
 use crate::refusal::Refusal;
@@ -20,5 +20,13 @@ impl Length {
             return Err(Refusal::LengthOutOfStep);
         }
         Ok(Length { metres })
+    }
+
+    // So many steps of five metres.
+    pub(crate) fn of_steps(steps: u32) -> Length
+        requires { steps ≤ 400 }
+        ensures { result.metres ≡ 5 * steps }
+    {
+        Length { metres: 5 * steps }
     }
 }

@@ -41,41 +41,29 @@ impl Refusal {
     }
 }
 
-impl TableFault {
-    fn words(self) -> &'static str {
-        match self {
-            TableFault::RowCount => "the table has no row, or more than 64",
-            TableFault::Row(_) =>
-                "a figure out of range, or a bound not above an earlier one of its kind, in the table's row",
-            TableFault::Gradient =>
-                "the table's gradient bound is above 2000, or that bound's clause is not 1 to 254",
-        }
-    }
-}
-
-impl Refusal {
-    fn words(self) -> &'static str {
-        match self {
-            Refusal::StationTooHigh => "a station is above 10000 m",
-            Refusal::LevelTooHigh => "a level is above 9000000 mm",
-            Refusal::UnknownRoadFigure => "a road figure is unknown",
-            Refusal::OvertakingTooSlow => "overtaking sight is not given below 40 km/h",
-            Refusal::UnlawfulTable(fault) => fault.words(),
-            Refusal::LengthOutOfStep => "a length is a multiple of 5 from 0 to 2000 m",
-            Refusal::StationsNotRising => "stations rise by at least 10 m from point to point",
-        }
-    }
-}
-
 impl fmt::Display for Refusal {
     fn fmt<W: fmt::Write>(&self, f: &mut fmt::Formatter<W>) -> fmt::Result {
-        let words = self.words();
         match *self {
+            Refusal::StationTooHigh => f.write_str("a station is above 10000 m"),
+            Refusal::LevelTooHigh => f.write_str("a level is above 9000000 mm"),
+            Refusal::UnknownRoadFigure => f.write_str("a road figure is unknown"),
+            Refusal::OvertakingTooSlow => f.write_str(
+                "overtaking sight is not given below 40 km/h",
+            ),
+            Refusal::UnlawfulTable(TableFault::RowCount) => f.write_str(
+                "the table has no row, or more than 64",
+            ),
             Refusal::UnlawfulTable(TableFault::Row(place)) => write!(
                 f,
-                "{words} {place}, counted from 0"
+                "a figure out of range, or a bound not above an earlier one of its kind, in the table's row {place}, counted from 0"
             ),
-            _ => f.write_str(words),
+            Refusal::UnlawfulTable(TableFault::Gradient) => f.write_str(
+                "the table's gradient bound is above 2000, or that bound's clause is not 1 to 254",
+            ),
+            Refusal::LengthOutOfStep => f.write_str("a length is a multiple of 5 from 0 to 2000 m"),
+            Refusal::StationsNotRising => f.write_str(
+                "stations rise by at least 10 m from point to point",
+            ),
         }
     }
 }

@@ -1,6 +1,6 @@
 // A road by the standard's five figures: class, terrain, speed, gradient and sight.
-ghost use Rattle.std.specs.Prelude.{◌≡◌, ◌≤◌, MatchResult};
-ghost use Rattle.rules.specs.Roads.{Known, Named, class_figure, gradient_figure, sight_figure, speed_figure, terrain_figure};
+ghost use Rattle.std.specs.Prelude.{◌≡◌, ◌≤◌, MatchResult, Some, length, slice_get};
+ghost use Rattle.rules.specs.Roads.{KindOf, RoadOf, class_figure, gradient_figure, sight_figure, speed_figure, terrain_figure};
 ghost use Rattle.rules.specs.declared.refusal.Refusal.TheVariants.{UnknownRoadFigure};
 
 use crate::refusal::Refusal;
@@ -65,73 +65,84 @@ pub struct Road {
     pub sight: Sight,
 }
 
-fn class_of(figure: u32) -> Result<Class, Refusal>
-    ensures { MatchResult result (λ x. class_figure x ≡ figure) (λ e. (e ≡ UnknownRoadFigure) × (4 ≤ figure)) }
+// The kind of this figure, where they are numbered from 0.
+fn kind_at<K: Copy>(kinds: &[K], figure: u32) -> Result<K, Refusal>
+    ensures { MatchResult result (λ kind. slice_get kinds.now figure ≡ Some kind) (λ e. (e ≡ UnknownRoadFigure) × (length kinds.now ≤ figure)) }
 {
-    match figure {
-        0 => Ok(Class::NhSh),
-        1 => Ok(Class::Mdr),
-        2 => Ok(Class::Odr),
-        3 => Ok(Class::Vr),
-        _ => Err(Refusal::UnknownRoadFigure),
+    kinds
+        .get(figure as usize)
+        .copied()
+        .ok_or(Refusal::UnknownRoadFigure)
+}
+
+impl TryFrom<u32> for Class {
+    type Error = Refusal;
+
+    ghost try_from_gives = { KindOf class_figure 4 };
+
+    fn try_from(figure: u32) -> Result<Self, Refusal> {
+        kind_at(&[Self::NhSh, Self::Mdr, Self::Odr, Self::Vr], figure)
     }
 }
 
-fn terrain_of(figure: u32) -> Result<Terrain, Refusal>
-    ensures { MatchResult result (λ x. terrain_figure x ≡ figure) (λ e. (e ≡ UnknownRoadFigure) × (4 ≤ figure)) }
-{
-    match figure {
-        0 => Ok(Terrain::Plain),
-        1 => Ok(Terrain::Rolling),
-        2 => Ok(Terrain::Mountainous),
-        3 => Ok(Terrain::Steep),
-        _ => Err(Refusal::UnknownRoadFigure),
+impl TryFrom<u32> for Terrain {
+    type Error = Refusal;
+
+    ghost try_from_gives = { KindOf terrain_figure 4 };
+
+    fn try_from(figure: u32) -> Result<Self, Refusal> {
+        kind_at(
+            &[Self::Plain, Self::Rolling, Self::Mountainous, Self::Steep],
+            figure,
+        )
     }
 }
 
-fn speed_of(figure: u32) -> Result<SpeedKind, Refusal>
-    ensures { MatchResult result (λ x. speed_figure x ≡ figure) (λ e. (e ≡ UnknownRoadFigure) × (2 ≤ figure)) }
-{
-    match figure {
-        0 => Ok(SpeedKind::Ruling),
-        1 => Ok(SpeedKind::Minimum),
-        _ => Err(Refusal::UnknownRoadFigure),
+impl TryFrom<u32> for SpeedKind {
+    type Error = Refusal;
+
+    ghost try_from_gives = { KindOf speed_figure 2 };
+
+    fn try_from(figure: u32) -> Result<Self, Refusal> {
+        kind_at(&[Self::Ruling, Self::Minimum], figure)
     }
 }
 
-fn gradient_of(figure: u32) -> Result<GradientKind, Refusal>
-    ensures { MatchResult result (λ x. gradient_figure x ≡ figure) (λ e. (e ≡ UnknownRoadFigure) × (3 ≤ figure)) }
-{
-    match figure {
-        0 => Ok(GradientKind::Ruling),
-        1 => Ok(GradientKind::Limiting),
-        2 => Ok(GradientKind::Exceptional),
-        _ => Err(Refusal::UnknownRoadFigure),
+impl TryFrom<u32> for GradientKind {
+    type Error = Refusal;
+
+    ghost try_from_gives = { KindOf gradient_figure 3 };
+
+    fn try_from(figure: u32) -> Result<Self, Refusal> {
+        kind_at(&[Self::Ruling, Self::Limiting, Self::Exceptional], figure)
     }
 }
 
-fn sight_of(figure: u32) -> Result<Sight, Refusal>
-    ensures { MatchResult result (λ x. sight_figure x ≡ figure) (λ e. (e ≡ UnknownRoadFigure) × (3 ≤ figure)) }
-{
-    match figure {
-        0 => Ok(Sight::Stopping),
-        1 => Ok(Sight::Intermediate),
-        2 => Ok(Sight::Overtaking),
-        _ => Err(Refusal::UnknownRoadFigure),
+impl TryFrom<u32> for Sight {
+    type Error = Refusal;
+
+    ghost try_from_gives = { KindOf sight_figure 3 };
+
+    fn try_from(figure: u32) -> Result<Self, Refusal> {
+        kind_at(
+            &[Self::Stopping, Self::Intermediate, Self::Overtaking],
+            figure,
+        )
     }
 }
 
-impl Road {
-    // The road that the figures stand for, or a refusal where one of them is unknown.
-    pub(crate) fn named(figures: RoadFigures) -> Result<Road, Refusal>
-        ensures { MatchResult result (λ road. Named figures road) (λ e. (e ≡ UnknownRoadFigure) × (Known figures → ⊥)) }
-    {
+impl TryFrom<RoadFigures> for Road {
+    type Error = Refusal;
+
+    ghost try_from_gives = { RoadOf };
+
+    fn try_from(figures: RoadFigures) -> Result<Self, Refusal> {
         Ok(Road {
-            class: class_of(figures.class)?,
-            terrain: terrain_of(figures.terrain)?,
-            speed: speed_of(figures.speed)?,
-            gradient: gradient_of(figures.gradient)?,
-            sight: sight_of(figures.sight)?,
+            class: figures.class.try_into()?,
+            terrain: figures.terrain.try_into()?,
+            speed: figures.speed.try_into()?,
+            gradient: figures.gradient.try_into()?,
+            sight: figures.sight.try_into()?,
         })
     }
 }

@@ -1,12 +1,14 @@
 // A road code over rows that the office keeps: how long curves must be, by the change of grade.
-ghost use Rattle.std.specs.Prelude.{◌≡◌, ◌<◌, ◌≤◌, length, Decides, MatchOption, MatchResult};
-ghost use Rattle.rules.specs.Tables.{AboveEarlier, AllLawful, FirstRowDecides, FirstUnlawful, Lawful, RowInRange, TableRefused, fits as fits_row, kind_number, row_verdict, table_curve, table_grade, verdict_of};
+ghost use Rattle.std.specs.Prelude.{◌≡◌, ◌<◌, ◌≤◌, find, length, Decides, MatchOption, MatchResult};
+ghost use Rattle.rules.specs.Tables.{AboveEarlier, AllLawful, FirstRowDecides, FirstUnlawful, Lawful, RowInRange, RowLawful, TableRefused, fits as fits_row, row_verdict, table_curve, table_grade};
+ghost use Rattle.rules.specs.Told.{Told};
 
+use crate::clause::ClauseNumber;
 use crate::code::RoadCode;
 use crate::grade::Grade;
 use crate::length::Length;
 use crate::refusal::{Refusal, TableFault};
-use crate::turn::{Kind, Turn};
+use crate::turn::Turn;
 
 // A row as it came in: of kind 0 (summit) or 1 (valley), up to `change` thousandths, at least `least` metres, else the clause.
 #[derive(Clone, Copy)]
@@ -26,19 +28,7 @@ pub struct LengthTable<'a> {
 }
 
 // The clause where no row reaches a turn's change of grade.
-const NO_ROW: u8 = 255;
-
-impl Kind {
-    // The figure that rows know the kind by.
-    pub(crate) fn number(self) -> u32
-        ensures { result ≡ kind_number self }
-    {
-        match self {
-            Kind::Summit => 0,
-            Kind::Valley => 1,
-        }
-    }
-}
+const NO_ROW: ClauseNumber = ClauseNumber { number: 255 };
 
 impl Row {
     fn in_range(self) -> bool
@@ -51,22 +41,21 @@ impl Row {
             && self.clause <= 254
     }
 
-    // Whether the row is for a turn of this kind, change and base.
-    fn fits(self, kind: u32, change: u64, base: u64) -> bool
-        requires { base ≤ 100000000 }
-        ensures { result ≡ fits_row kind change base self }
+    // Whether the row is of the turn's kind and reaches its change of grade.
+    fn fits(self, turn: Turn) -> bool
+        ensures { result ≡ fits_row turn.bend self }
     {
-        self.kind == kind && change <= self.change as u64 * base
+        self.kind == u32::from(turn.kind()) && turn.change() <= self.change as u64 * turn.base()
     }
 
-    // The clause of the row at a length, or 0.
-    fn verdict(self, length: u32) -> u8
-        ensures { result ≡ row_verdict self length }
+    // What the row says of a length: its clause where the length is below the least.
+    fn verdict(self, at: Length) -> Result<(), ClauseNumber>
+        ensures { Told (row_verdict self at.metres) result }
     {
-        if length < self.least {
-            self.clause.min(255) as u8
+        if at.metres < self.least {
+            ClauseNumber::told(self.clause.min(255) as u8)
         } else {
-            0
+            Ok(())
         }
     }
 }
@@ -76,37 +65,23 @@ fn above_earlier(rows: &[Row], i: usize) -> bool
     requires { i < length rows.now }
     ensures { Decides result (AboveEarlier rows.now i) }
 {
-    for j in 0..i {
-        if rows[j].kind == rows[i].kind && rows[j].change >= rows[i].change {
-            return false;
-        }
-    }
-    true
+    let row = rows[i];
+    rows[..i].iter().all(|earlier| earlier.kind != row.kind || earlier.change < row.change)
+}
+
+// Whether the row at `i` keeps the rules of a table.
+fn is_lawful(rows: &[Row], i: usize) -> bool
+    requires { i < length rows.now }
+    ensures { Decides result (RowLawful rows.now i) }
+{
+    rows[i].in_range() && above_earlier(rows, i)
 }
 
 // The first row against the rules of a table.
 fn first_unlawful(rows: &[Row]) -> Option<usize>
     ensures { MatchOption result (AllLawful rows.now) (λ i. FirstUnlawful rows.now i) }
 {
-    for i in 0..rows.len() {
-        if !rows[i].in_range() || !above_earlier(rows, i) {
-            return Some(i);
-        }
-    }
-    None
-}
-
-// What the first row that fits says of a length.
-fn verdict_by(rows: &[Row], kind: u32, change: u64, base: u64, length: u32) -> u8
-    requires { base ≤ 100000000 }
-    ensures { result ≡ verdict_of kind change base rows.now length }
-{
-    for row in rows {
-        if row.fits(kind, change, base) {
-            return row.verdict(length);
-        }
-    }
-    NO_ROW
+    (0..rows.len()).find(|&i| !is_lawful(rows, i))
 }
 
 impl<'a> LengthTable<'a> {
@@ -130,6 +105,13 @@ impl<'a> LengthTable<'a> {
         })
     }
 
+    // The row that decides on a turn: the first that fits.
+    fn row_for(&self, turn: Turn) -> Option<Row>
+        ensures { result ≡ find (fits_row turn.bend) self.now.rows.now }
+    {
+        self.rows.iter().find(|row| row.fits(turn)).copied()
+    }
+
     // A law for callers: the first row of the turn's kind that reaches its change of grade decides.
     pub fn first_row_decides(&self)
         ensures { FirstRowDecides self.now.rows.now }
@@ -141,21 +123,18 @@ impl<'a> RoadCode for LengthTable<'a> {
 
     ghost curve_verdict = { λ t. table_curve t.rows.now };
 
-    fn grade(&self, grade: Grade) -> u8 {
+    fn grade(&self, grade: Grade) -> Result<(), ClauseNumber> {
         if grade.rise.unsigned_abs() > self.bound as u64 * grade.run as u64 {
-            self.clause
+            ClauseNumber::told(self.clause)
         } else {
-            0
+            Ok(())
         }
     }
 
-    fn curve(&self, turn: Turn, at: Length) -> u8 {
-        verdict_by(
-            self.rows,
-            turn.kind().number(),
-            turn.change(),
-            turn.base(),
-            at.metres,
-        )
+    fn curve(&self, turn: Turn, at: Length) -> Result<(), ClauseNumber> {
+        match self.row_for(turn) {
+            Some(row) => row.verdict(at),
+            None => Err(NO_ROW),
+        }
     }
 }

@@ -1,9 +1,9 @@
 // A turn: a point with a neighbour on each side, where one grade meets the next.
 ghost use Rattle.std.specs.Prelude.{◌≡◌, ◌+◌, ◌≤◌, [], ◌∷◌, pos, ◌*ℤ◌, MatchResult, unsigned_abs};
 ghost use Rattle.rules.specs.Points.{PointsRefused, PointsSound};
-ghost use Rattle.rules.specs.Turns.{base as base_of, bend_of, change as change_of, kind as kind_of, twist as twist_of};
+ghost use Rattle.rules.specs.Turns.{base as base_of, bend_of, change as change_of, kind as kind_of, kind_number, twist as twist_of};
 
-use crate::point::Point;
+use crate::point::{Point, sound};
 use crate::refusal::Refusal;
 
 // Which way the road turns: over a hill top, or through a hollow.
@@ -11,6 +11,18 @@ use crate::refusal::Refusal;
 pub enum Kind {
     Summit,
     Valley,
+}
+
+// The figure that rows of a length table know a kind by.
+impl From<Kind> for u32 {
+    ghost from_gives = { λ kind figure. figure ≡ kind_number kind };
+
+    fn from(kind: Kind) -> u32 {
+        match kind {
+            Kind::Summit => 0,
+            Kind::Valley => 1,
+        }
+    }
 }
 
 // The four figures of a turn, of any size.
@@ -47,26 +59,19 @@ impl Turn {
     pub fn through(before: Point, at: Point, after: Point) -> Result<Turn, Refusal>
         ensures { MatchResult result (λ t. PointsSound (before ∷ (at ∷ (after ∷ []))) × (t.bend ≡ bend_of before at after)) (λ e. PointsRefused (before ∷ (at ∷ (after ∷ []))) e) }
     {
-        if before.station > 10_000 || at.station > 10_000 || after.station > 10_000 {
-            return Err(Refusal::StationTooHigh);
-        }
-        if before.level > 9_000_000 || at.level > 9_000_000 || after.level > 9_000_000 {
-            return Err(Refusal::LevelTooHigh);
-        }
-        if at.station < before.station + 10 || after.station < at.station + 10 {
-            return Err(Refusal::StationsNotRising);
-        }
+        sound(&[before, at, after])?;
         Ok(Turn {
             bend: Bend {
-                rise_in: at.level as i64 - before.level as i64,
-                run_in: at.station - before.station,
-                rise_out: after.level as i64 - at.level as i64,
-                run_out: after.station - at.station,
+                rise_in: before.rise_to(at),
+                run_in: before.run_to(at),
+                rise_out: at.rise_to(after),
+                run_out: at.run_to(after),
             },
         })
     }
 
     // How the outgoing grade differs from the incoming one, over both runs: below zero at a summit.
+    #[tactic(auto, unfolding(crate::specs::Turns::twist))]
     fn twist(&self) -> i64
         ensures value { result ≡ twist_of self.now.bend }
         ensures small { unsigned_abs result ≤ 180000000000 }
@@ -75,6 +80,7 @@ impl Turn {
     }
 
     // The change of grade, in thousandths over the base.
+    #[tactic(auto, unfolding(crate::specs::Turns::change))]
     pub fn change(&self) -> u64
         ensures value { result ≡ change_of self.now.bend }
         ensures small { result ≤ 180000000000 }
@@ -83,6 +89,7 @@ impl Turn {
     }
 
     // Both runs multiplied.
+    #[tactic(auto, unfolding(crate::specs::Turns::base))]
     pub fn base(&self) -> u64
         ensures value { result ≡ base_of self.now.bend }
         ensures small { result ≤ 100000000 }
@@ -91,6 +98,7 @@ impl Turn {
     }
 
     // Summit or valley.
+    #[tactic(auto, unfolding(crate::specs::Turns::kind))]
     pub fn kind(&self) -> Kind
         ensures { result ≡ kind_of self.now.bend }
     {
