@@ -3,6 +3,7 @@
 
 mod entry;
 pub mod fault;
+mod held;
 pub mod number;
 pub mod reading;
 pub mod writing;

@@ -1,5 +1,6 @@
 // Numbers in groups of seven bits, lowest first, in the shortest form.
-ghost use Rattle.std.specs.Prelude.{◌≡◌, ◌+◌, ◌≤◌, length};
+ghost use Rattle.std.specs.Prelude.{◌≡◌, ◌+◌, ◌*◌, ◌≤◌, length};
+ghost use Rattle.book.specs.Book.{written};
 ghost use Rattle.book.specs.Numbers.{Numbered, number, put};
 ghost use Rattle.book.specs.Pairs.{ExactlyRead, NumberRead, PairWritten};
 
@@ -88,6 +89,32 @@ pub(crate) fn write_number(out: &mut [u8], at: usize, n: u32) -> usize
     }
     out[end] = left as u8;
     end + 1
+}
+
+// How many bytes some numbers take.
+pub(crate) fn numbers_size(numbers: &[u32]) -> usize
+    requires { length numbers.now ≤ 6 }
+    ensures is { result ≡ length (written numbers.now) }
+    ensures few { result ≤ 5 * length numbers.now }
+{
+    let mut size = 0;
+    for n in numbers {
+        size += number_size(*n);
+    }
+    size
+}
+
+// Writes some numbers at a place, and tells the place after them.
+pub(crate) fn write_numbers(out: &mut [u8], at: usize, numbers: &[u32]) -> usize
+    requires { at + length (written numbers.now) ≤ length out.old }
+    ensures end { result ≡ at + length (written numbers.now) }
+    ensures text { out.new ≡ put out.old at (written numbers.now) }
+{
+    let mut end = at;
+    for n in numbers {
+        end = write_number(out, end, *n);
+    }
+    end
 }
 
 // The number that stands at a place, or why none does; beyond the last byte it is cut off.

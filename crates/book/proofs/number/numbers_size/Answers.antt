@@ -2,7 +2,7 @@ use Rattle.std.proofs.Common.{◌+◌, length, get_or, drop, ap, arith}
 use Rattle.std.proofs.lemmas.List.{drop_more, drop_all}
 use Rattle.book.specs.Book.{written}
 use Rattle.book.proofs.Writes.{length-written, length_none}
-use Rattle.book.proofs.writing.numbers_size.Goals as goal
+use Rattle.book.proofs.number.numbers_size.Goals as goal
 
 pub loop-n-preserved : goal.loop-n-preserved
 loop-n-preserved c =
