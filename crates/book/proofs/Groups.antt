@@ -1,8 +1,8 @@
 -- Laws of the groups of seven bits, and what a read keeps. Assumes nothing.
-use Rattle.std.proofs.Common.{◌≡◌, ℕ, zero, suc, ◌+◌, ◌-◌, ◌*◌, ◌/◌, ◌%◌, ◌^◌, ◌<◌, ◌≤◌, List, [], ◌∷◌, ◌++◌, length, get_or, take, drop, set, sym, refl, ap, ◌∙◌, ⊎_elim, append_assoc, add_assoc, mul_assoc, mul-add, add-one, arith, length-drop, pow_mono, below_more}
+use Rattle.std.proofs.Common.{◌≡◌, ℕ, zero, suc, ◌+◌, ◌-◌, ◌*◌, ◌/◌, ◌%◌, ◌^◌, ◌<◌, ◌≤◌, List, [], ◌∷◌, ◌++◌, length, get_or, take, drop, set, sym, refl, ap, ◌∙◌, ⊎_elim, append_assoc, add_assoc, mul_assoc, mul-add, add-one, arith, length-drop, length-take, min, pow_mono, below_more}
 use Rattle.std.proofs.lemmas.Bool.{lt-ltb, le-ltb, cases_lt}
 use Rattle.std.proofs.lemmas.Nat.{mul-le, pow-add, div_below}
-use Rattle.std.proofs.lemmas.List.{take_more, take-append-drop, drop-drop, get_or-drop, length-take-le, take_more_set, drop-set-lt, set_split, length-set}
+use Rattle.std.proofs.lemmas.List.{take_more, take-append-drop, drop-drop, get_or-drop, get_or-take, length-take-le, take_more_set, drop-set-lt, set_split, length-set}
 use Rattle.book.specs.Numbers.{groups, number, put, Stands, Tops}
 
 pub one : (f n : ℕ) → n < 128 → groups (suc f) n ≡ n ∷ []
@@ -116,6 +116,15 @@ module _ (bs : List ℕ) (at k value scale : ℕ) (b : Begun bs at k value scale
         end = rw (e, n) (omega arith);
         within = omega arith;
       }
+
+-- the first m bytes from a place on: how many there are, and one of them
+pub length_groups : (bs : List ℕ) (at m r : ℕ) → length (take m (take r (drop at bs))) ≡ min m (min r (length bs - at))
+length_groups bs at m r = omega (arith, length-take m (take r (drop at bs)), length-take r (drop at bs), length-drop at bs)
+
+pub byte_at : (bs : List ℕ) (at m r k : ℕ) → k < length (take m (take r (drop at bs))) → (get_or (take m (take r (drop at bs))) k 0 ≡ get_or bs (at + k) 0) × (at + k < length bs) × (k < m)
+byte_at bs at m r k h =
+    let l = length_groups bs at m r in
+    (get_or-take m (take r (drop at bs)) k 0 (omega arith) ∙ (get_or-take r (drop at bs) k 0 (omega arith) ∙ get_or-drop at bs k 0), omega arith, omega arith)
 
 -- what is left to write leads to what is wanted
 pub record Going (start : List ℕ) (at n : ℕ) (out : List ℕ) (end left : ℕ) : Type 0 where

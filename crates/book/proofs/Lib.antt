@@ -1,7 +1,6 @@
 pub mod Groups
 pub mod Apart
 pub mod Paths
-pub mod Entries
 pub mod Slots
 pub mod Laws
 pub mod Once

@@ -2,7 +2,6 @@
 use Rattle.std.proofs.Common.{◌≡◌, ℕ, suc, ◌+◌, ◌*◌, ◌<◌, ◌≤◌, List, [], ◌∷◌, ◌++◌, length, get_or, take, drop, sym, refl, ap, ◌∙◌, append_assoc, add-zero, add_assoc, add-one, arith, length-append}
 use Rattle.std.proofs.lemmas.Bool.{ne_eqb, eq-eqb}
 use Rattle.std.proofs.lemmas.List.{take-append-drop, drop_all, drop_more, drop-drop, drop_at, take_at, length-take-le}
-use Rattle.pegs.specs.Slots.{untouched}
 use Rattle.pegs.specs.declared.slot.Slot.{Slot}
 use Rattle.pegs.specs.declared.tables.Tables.{Tables}
 use Rattle.book.specs.Book.{edited, encode, entries, entry_numbers, fixed_figures, peg_figures, table_numbers, written}

@@ -1,5 +1,6 @@
 pub mod Book
 pub mod Faults
+pub mod Figures
 pub mod Numbers
 pub mod Pairs
 pub mod Reading

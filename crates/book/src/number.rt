@@ -1,9 +1,10 @@
 // Numbers in groups of seven bits, lowest first, in the shortest form.
 ghost use Rattle.std.specs.Prelude.{◌≡◌, ◌+◌, ◌*◌, ◌≤◌, length};
 ghost use Rattle.book.specs.Book.{written};
-ghost use Rattle.book.specs.Numbers.{Numbered, number, put};
+ghost use Rattle.book.specs.Numbers.{Taken, number, put};
 ghost use Rattle.book.specs.Pairs.{ExactlyRead, NumberRead, PairWritten};
 
+use crate::cursor::Cursor;
 use crate::fault::{NumberFault, NumberKind, TooShort};
 
 // A number that was read, and the place after it.
@@ -13,47 +14,56 @@ pub struct Read {
     pub end: usize,
 }
 
-// The number that stands at a place.
-pub(crate) fn read_number(bytes: &[u8], at: usize) -> Result<Read, NumberFault>
-    requires { at ≤ length bytes.now }
-    ensures { Numbered bytes.now at result }
-{
-    let mut value: u64 = 0;
-    let mut scale: u64 = 1;
-    for k in 0..5usize {
-        if bytes.len() - at <= k {
-            return Err(NumberFault {
-                place: at,
-                kind: NumberKind::Cut,
-            });
+impl<'a> Cursor<'a> {
+    // No number stands here.
+    fn no_number(&self, kind: NumberKind) -> NumberFault
+        ensures { result ≡ record { place = self.now.at; kind = kind } }
+    {
+        NumberFault {
+            place: self.at,
+            kind,
         }
-        let byte = bytes[at + k];
-        if byte < 128 {
-            if byte == 0 && k > 0 {
-                return Err(NumberFault {
-                    place: at,
-                    kind: NumberKind::Long,
-                });
-            }
-            let whole = value + scale * byte as u64;
-            if whole > u32::MAX as u64 {
-                return Err(NumberFault {
-                    place: at,
-                    kind: NumberKind::Large,
-                });
-            }
-            return Ok(Read {
-                value: whole as u32,
-                end: at + k + 1,
-            });
-        }
-        value += scale * (byte - 128) as u64;
-        scale *= 128;
     }
-    Err(NumberFault {
-        place: at,
-        kind: NumberKind::Large,
-    })
+
+    // The number that stands here, and the place after it.
+    fn peek(&self) -> Result<Read, NumberFault>
+        ensures { NumberRead self.now.bytes.now self.now.at result }
+    {
+        let rest = &self.bytes[self.at..];
+        let groups = &rest[..rest.len().min(5)];
+        let mut value: u64 = 0;
+        let mut scale: u64 = 1;
+        for (k, &byte) in groups.iter().enumerate() {
+            if byte < 128 {
+                if byte == 0 && k > 0 {
+                    return Err(self.no_number(NumberKind::Long));
+                }
+                let whole = value + scale * byte as u64;
+                if whole > u32::MAX as u64 {
+                    return Err(self.no_number(NumberKind::Large));
+                }
+                return Ok(Read {
+                    value: whole as u32,
+                    end: self.at + k + 1,
+                });
+            }
+            value += scale * (byte - 128) as u64;
+            scale *= 128;
+        }
+        if groups.len() < 5 {
+            return Err(self.no_number(NumberKind::Cut));
+        }
+        Err(self.no_number(NumberKind::Large))
+    }
+
+    // The number that stands here, which is passed.
+    pub(crate) fn number(&mut self) -> Result<u32, NumberFault>
+        ensures { Taken self.old self.new result }
+    {
+        let read = self.peek()?;
+        self.at = read.end;
+        Ok(read.value)
+    }
 }
 
 // How many bytes a number takes.
@@ -128,10 +138,7 @@ pub fn read_at(bytes: &[u8], at: usize) -> Result<Read, NumberFault>
             kind: NumberKind::Cut,
         });
     }
-    match read_number(bytes, at) {
-        Ok(read) => Ok(read),
-        Err(fault) => Err(fault),
-    }
+    Cursor { bytes, at }.peek()
 }
 
 // Writes two numbers at a place, and tells the place after them; where the room is short, nothing is written.
