@@ -6,4 +6,5 @@ pub mod Pairs
 pub mod Reading
 pub mod Sound
 pub mod Wanted
+pub mod Words
 pub mod Writing
