@@ -5,5 +5,6 @@ pub mod Slots
 pub mod Laws
 pub mod Once
 pub mod Writes
+pub mod Tables
 pub mod Sizes
 pub mod Exact

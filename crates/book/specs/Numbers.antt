@@ -18,6 +18,10 @@ number n = groups 5 n
 abbrev pub put : List ℕ → ℕ → List ℕ → List ℕ
 put xs at ys = take at xs ++ (ys ++ drop (at + length ys) xs)
 
+-- xs with ys written over its front
+abbrev pub over : List ℕ → List ℕ → List ℕ
+over xs ys = ys ++ drop (length ys) xs
+
 -- ys stand in the bytes from a place up to another
 pub record Stands (bs : List ℕ) (from : ℕ) (ys : List ℕ) (to : ℕ) : Type 0 where
   pub bytes : drop from bs ≡ ys ++ drop to bs

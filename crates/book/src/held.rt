@@ -1,7 +1,7 @@
 // What a slot may hold, as a book tells it: the figures of a peg, and those of a fixed level.
-ghost use Rattle.std.specs.Prelude.{◌≡◌, ℕ, ◌+◌, ◌≤◌, List, length};
+ghost use Rattle.std.specs.Prelude.{◌≡◌, ℕ, ◌≤◌, List, length};
 ghost use Rattle.book.specs.Book.{fixed_figures, peg_figures, written};
-ghost use Rattle.book.specs.Numbers.{put};
+ghost use Rattle.book.specs.Numbers.{over};
 ghost use Rattle.book.specs.Reading.{Figured};
 ghost use Rattle.book.specs.Sound.{GoodFixed, GoodPeg};
 ghost use Rattle.book.specs.Wanted.{Fair, entry, next_entry, station};
@@ -48,11 +48,11 @@ pub(crate) trait Held: Copy {
         ensures is { result ≡ length (written (figures self)) }
         ensures few { result ≤ 15 };
 
-    // Writes the figures at a place, and tells the place after them.
-    fn write(self, out: &mut [u8], at: usize) -> usize
-        requires { at + length (written (figures self)) ≤ length out.old }
-        ensures end { result ≡ at + length (written (figures self)) }
-        ensures text { out.new ≡ put out.old at (written (figures self)) };
+    // Writes the figures at the front, and tells how many bytes they take.
+    fn write(self, out: &mut [u8]) -> usize
+        requires { length (written (figures self)) ≤ length out.old }
+        ensures size { result ≡ length (written (figures self)) }
+        ensures text { out.new ≡ over out.old (written (figures self)) };
 
     // Reads the figures.
     fn read(cursor: &mut Cursor<'_>) -> Result<Self, EntryFault>
@@ -75,8 +75,8 @@ impl Held for Peg {
         numbers_size(&[self.station, self.level])
     }
 
-    fn write(self, out: &mut [u8], at: usize) -> usize {
-        write_numbers(out, at, &[self.station, self.level])
+    fn write(self, out: &mut [u8]) -> usize {
+        write_numbers(out, &[self.station, self.level])
     }
 
     fn read(cursor: &mut Cursor<'_>) -> Result<Peg, EntryFault> {
@@ -101,8 +101,8 @@ impl Held for FixedLevel {
         numbers_size(&[self.station, self.low, self.high])
     }
 
-    fn write(self, out: &mut [u8], at: usize) -> usize {
-        write_numbers(out, at, &[self.station, self.low, self.high])
+    fn write(self, out: &mut [u8]) -> usize {
+        write_numbers(out, &[self.station, self.low, self.high])
     }
 
     fn read(cursor: &mut Cursor<'_>) -> Result<FixedLevel, EntryFault> {

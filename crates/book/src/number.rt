@@ -1,7 +1,7 @@
 // Numbers in groups of seven bits, lowest first, in the shortest form.
 ghost use Rattle.std.specs.Prelude.{◌≡◌, ◌+◌, ◌*◌, ◌≤◌, length};
 ghost use Rattle.book.specs.Book.{written};
-ghost use Rattle.book.specs.Numbers.{Taken, number, put};
+ghost use Rattle.book.specs.Numbers.{Taken, number, over};
 ghost use Rattle.book.specs.Pairs.{ExactlyRead, NumberRead, PairWritten};
 
 use crate::cursor::Cursor;
@@ -84,14 +84,14 @@ pub(crate) fn number_size(n: u32) -> usize
     }
 }
 
-// Writes a number at a place, and tells the place after it.
-pub(crate) fn write_number(out: &mut [u8], at: usize, n: u32) -> usize
-    requires { at + length (number n) ≤ length out.old }
-    ensures end { result ≡ at + length (number n) }
-    ensures written { out.new ≡ put out.old at (number n) }
+// Writes a number at the front, and tells how many bytes it takes.
+pub(crate) fn write_number(out: &mut [u8], n: u32) -> usize
+    requires { length (number n) ≤ length out.old }
+    ensures size { result ≡ length (number n) }
+    ensures text { out.new ≡ over out.old (number n) }
 {
     let mut left = n;
-    let mut end = at;
+    let mut end = 0;
     while left >= 128 {
         out[end] = (128 + left % 128) as u8;
         left /= 128;
@@ -114,15 +114,15 @@ pub(crate) fn numbers_size(numbers: &[u32]) -> usize
     size
 }
 
-// Writes some numbers at a place, and tells the place after them.
-pub(crate) fn write_numbers(out: &mut [u8], at: usize, numbers: &[u32]) -> usize
-    requires { at + length (written numbers.now) ≤ length out.old }
-    ensures end { result ≡ at + length (written numbers.now) }
-    ensures text { out.new ≡ put out.old at (written numbers.now) }
+// Writes some numbers at the front, and tells how many bytes they take.
+pub(crate) fn write_numbers(out: &mut [u8], numbers: &[u32]) -> usize
+    requires { length (written numbers.now) ≤ length out.old }
+    ensures size { result ≡ length (written numbers.now) }
+    ensures text { out.new ≡ over out.old (written numbers.now) }
 {
-    let mut end = at;
+    let mut end = 0;
     for n in numbers {
-        end = write_number(out, end, *n);
+        end += write_number(&mut out[end..], *n);
     }
     end
 }
@@ -151,6 +151,6 @@ pub fn write_pair(out: &mut [u8], at: usize, first: u32, second: u32) -> Result<
     if out.len() - at < number_size(first) + number_size(second) {
         return Err(TooShort);
     }
-    let middle = write_number(out, at, first);
-    Ok(write_number(out, middle, second))
+    let middle = at + write_number(&mut out[at..], first);
+    Ok(middle + write_number(&mut out[middle..], second))
 }

@@ -1,7 +1,7 @@
 // Writing a book, after its length is known to fit.
-ghost use Rattle.std.specs.Prelude.{◌≡◌, ◌+◌, ◌≤◌, length};
+ghost use Rattle.std.specs.Prelude.{◌≡◌, ◌≤◌, length};
 ghost use Rattle.book.specs.Book.{OneBook, edited, entry_numbers, table_numbers, written};
-ghost use Rattle.book.specs.Numbers.{put};
+ghost use Rattle.book.specs.Numbers.{over};
 ghost use Rattle.book.specs.Writing.{Short, Tallied, Writes};
 
 use crate::fault::TooShort;
@@ -47,33 +47,33 @@ fn tally_table<T: Held>(slots: &[Slot<T>]) -> Tally
     }
 }
 
-// Writes an entry at a place, and tells the place after it.
-fn write_entry<T: Held>(out: &mut [u8], at: usize, number: u32, slot: &Slot<T>) -> usize
-    requires { at + length (written (entry_numbers T.figures number slot.now)) ≤ length out.old }
-    ensures end { result ≡ at + length (written (entry_numbers T.figures number slot.now)) }
-    ensures text { out.new ≡ put out.old at (written (entry_numbers T.figures number slot.now)) }
+// Writes an entry at the front, and tells how many bytes it takes.
+fn write_entry<T: Held>(out: &mut [u8], number: u32, slot: &Slot<T>) -> usize
+    requires { length (written (entry_numbers T.figures number slot.now)) ≤ length out.old }
+    ensures size { result ≡ length (written (entry_numbers T.figures number slot.now)) }
+    ensures text { out.new ≡ over out.old (written (entry_numbers T.figures number slot.now)) }
 {
     match slot.held {
-        None => write_numbers(out, at, &[number, slot.last, 0]),
+        None => write_numbers(out, &[number, slot.last, 0]),
         Some(held) => {
-            let middle = write_numbers(out, at, &[number, slot.last, 1]);
-            held.write(out, middle)
+            let middle = write_numbers(out, &[number, slot.last, 1]);
+            middle + held.write(&mut out[middle..])
         }
     }
 }
 
-// Writes the count of a table's entries and these, and tells the place after them.
-fn write_table<T: Held>(out: &mut [u8], at: usize, slots: &[Slot<T>], count: u32) -> usize
+// Writes the count of a table's entries and these at the front, and tells how many bytes they take.
+fn write_table<T: Held>(out: &mut [u8], slots: &[Slot<T>], count: u32) -> usize
     requires few { length slots.now ≤ 40 }
     requires counted { count ≡ edited slots.now }
-    requires room { at + length (written (table_numbers T.figures slots.now)) ≤ length out.old }
-    ensures end { result ≡ at + length (written (table_numbers T.figures slots.now)) }
-    ensures text { out.new ≡ put out.old at (written (table_numbers T.figures slots.now)) }
+    requires room { length (written (table_numbers T.figures slots.now)) ≤ length out.old }
+    ensures size { result ≡ length (written (table_numbers T.figures slots.now)) }
+    ensures text { out.new ≡ over out.old (written (table_numbers T.figures slots.now)) }
 {
-    let mut end = write_number(out, at, count);
+    let mut end = write_number(out, count);
     for (k, slot) in slots.iter().enumerate() {
         if slot.last > 0 {
-            end = write_entry(out, end, k as u32, slot);
+            end += write_entry(&mut out[end..], k as u32, slot);
         }
     }
     end
@@ -89,9 +89,9 @@ pub fn write(out: &mut [u8], tables: &Tables) -> Result<usize, TooShort>
     if out.len() < number_size(1) + pegs.size + fixed.size {
         return Err(TooShort);
     }
-    let start = write_number(out, 0, 1);
-    let middle = write_table(out, start, &tables.pegs, pegs.count);
-    Ok(write_table(out, middle, &tables.fixed, fixed.count))
+    let start = write_number(out, 1);
+    let middle = start + write_table(&mut out[start..], &tables.pegs, pegs.count);
+    Ok(middle + write_table(&mut out[middle..], &tables.fixed, fixed.count))
 }
 
 // No two sound tables have one book: a proof and no code.

@@ -1,5 +1,5 @@
 use Rattle.std.proofs.Common.{arith}
-use Rattle.book.proofs.Writes.{count_skip, count_stop, count_take}
+use Rattle.book.proofs.Tables.{count_skip, count_stop, count_take}
 use Rattle.book.proofs.writing.tally_table.Goals.{then-slot-gt0, else-slot-gt0}
 use Rattle.book.proofs.writing.tally_table.Goals as goal
 

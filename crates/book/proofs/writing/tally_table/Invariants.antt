@@ -1,4 +1,4 @@
-use Rattle.book.proofs.Writes.{Counting}
+use Rattle.book.proofs.Tables.{Counting}
 use Rattle.book.proofs.writing.tally_table.Given as goal
 
 abbrev pub invariant-loop-k : goal.invariant-loop-k

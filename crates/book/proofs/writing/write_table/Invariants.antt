@@ -4,4 +4,4 @@ use Rattle.book.proofs.Writes.{Leads}
 use Rattle.book.proofs.writing.write_table.Given as goal
 
 abbrev pub invariant-loop-k : goal.invariant-loop-k
-invariant-loop-k g l = Leads l.fn.out l.at (written (table_numbers g.T.Held.figures l.slots)) l.out l.end (written (entries g.T.Held.figures l.k (drop l.k l.slots)))
+invariant-loop-k g l = Leads l.fn.out (written (table_numbers g.T.Held.figures l.slots)) l.out l.end (written (entries g.T.Held.figures l.k (drop l.k l.slots)))
