@@ -4,7 +4,8 @@ use Rattle.std.proofs.lemmas.Bool.{lt-ltb, le-ltb, cases_lt}
 use Rattle.std.proofs.lemmas.Nat.{mul-le, pow-add, div_below}
 use Rattle.std.proofs.lemmas.List.{take_more, take-append-drop, drop-drop, get_or-drop, get_or-take, length-take-le, set_split}
 use Rattle.book.specs.Numbers.{groups, number, over, put, Stands, Tops}
-use Rattle.book.proofs.Writes.{Leads, put_step}
+use Rattle.book.specs.Book.{written}
+use Rattle.book.proofs.Writes.{Leads, length_none, length-written, put_step}
 use Rattle.book.proofs.Writes as Writes
 
 pub one : (f n : ℕ) → n < 128 → groups (suc f) n ≡ n ∷ []
@@ -14,6 +15,16 @@ one f n h = rw (lt-ltb n 128 h) refl
 pub more : (f n : ℕ) → 128 ≤ n → groups (suc f) n ≡ (128 + n % 128) ∷ groups f (n / 128)
 unfolding groups
 more f n h = rw (le-ltb n 128 h) refl
+
+-- numbers take five bytes each at most
+groups_most : (f n : ℕ) → length (groups f n) ≤ f
+unfolding groups
+groups_most zero n = omega arith
+groups_most (suc f) n = ⊎_elim (λ h. rw (one f n h) (omega arith)) (λ h. rw (more f n h) (omega (arith, groups_most f (n / 128)))) (cases_lt n 128)
+
+pub written_most : (ns : List ℕ) → length (written ns) ≤ 5 * length ns
+written_most [] = omega (arith, length_none)
+written_most (n ∷ ns) = omega (arith, length-written n ns, groups_most 5 n, written_most ns)
 
 -- how many bytes numbers of two groups and more take
 pub length_two : (n : ℕ) → 128 ≤ n → n < 16384 → 2 ≡ length (number n)

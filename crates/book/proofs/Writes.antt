@@ -1,6 +1,8 @@
 -- What is written, and what is left to write. Assumes nothing.
 use Rattle.std.proofs.Common.{◌≡◌, ℕ, ◌+◌, ◌-◌, ◌<◌, ◌≤◌, List, [], ◌∷◌, ◌++◌, length, get_or, take, drop, sym, refl, ap, ◌∙◌, append_assoc, add-zero, add_assoc, arith, length-append, length-drop}
 use Rattle.std.proofs.lemmas.List.{append-nil, take-append-drop, take_all, drop_all, drop_more, drop-drop, drop_at, take_at, length-take-le}
+use Rattle.std.specs.List.{sum_by}
+use Rattle.std.proofs.lemmas.List.Sums.{sum_by-cons}
 use Rattle.book.specs.Book.{written}
 use Rattle.book.specs.Numbers.{number, over, put}
 use Rattle.book.proofs.Paths.{written-append}
@@ -15,6 +17,10 @@ length_both ns ms = ap length (written-append ns ms) ∙ length-append (written 
 pub length_none : length (written []) ≡ 0
 unfolding written
 length_none = refl
+
+pub length_sum : (ns : List ℕ) → length (written ns) ≡ sum_by (λ n. length (number n)) ns
+length_sum [] = length_none
+length_sum (n ∷ ns) = omega (arith, length-written n ns, length_sum ns, sum_by-cons (λ n. length (number n)) n ns)
 
 -- a write after a write
 pub put-put : (xs : List ℕ) (at : ℕ) (ys zs : List ℕ) → at + length ys ≤ length xs → put (put xs at ys) (at + length ys) zs ≡ put xs at (ys ++ zs)

@@ -107,11 +107,7 @@ pub(crate) fn numbers_size(numbers: &[u32]) -> usize
     ensures is { result ≡ length (written numbers.now) }
     ensures few { result ≤ 5 * length numbers.now }
 {
-    let mut size = 0;
-    for n in numbers {
-        size += number_size(*n);
-    }
-    size
+    numbers.iter().map(|n| number_size(*n)).sum()
 }
 
 // Writes some numbers at the front, and tells how many bytes they take.
