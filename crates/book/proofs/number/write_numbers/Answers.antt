@@ -1,11 +1,8 @@
 use Rattle.std.proofs.Common.{◌+◌, get_or, drop, arith}
 use Rattle.book.specs.Book.{written}
 use Rattle.book.specs.Numbers.{number}
-use Rattle.book.proofs.Writes.{begin, next_number, no_number, room, step, stop}
+use Rattle.book.proofs.Writes.{next_number, no_number, room, step, stop}
 use Rattle.book.proofs.number.write_numbers.Goals as goal
-
-pub loop-n-init : goal.loop-n-init
-loop-n-init c = begin c.args.out.now (written c.args.numbers.now)
 
 pub write_number-end-requires : goal.write_number-end-requires
 write_number-end-requires c =

@@ -1,14 +1,8 @@
-use Rattle.std.proofs.Common.{◌+◌, refl, arith, length-append}
+use Rattle.std.proofs.Common.{◌+◌, arith}
 use Rattle.book.specs.Numbers.{number}
 use Rattle.book.proofs.Exact.{second}
 use Rattle.book.proofs.Writes.{put_part}
 use Rattle.book.proofs.number.write_pair.Goals as goal
-
-pub returns-then-out-at : goal.returns-then-out-at
-returns-then-out-at c = (omega (arith, length-append (number c.args.first) (number c.args.second)), refl)
-
-pub returns-then-out-at-2 : goal.returns-then-out-at-2
-returns-then-out-at-2 c = (omega (arith, length-append (number c.args.first) (number c.args.second)), refl)
 
 pub returns : goal.returns
 returns c =

@@ -1,6 +1,5 @@
-use Rattle.std.proofs.Common.{arith}
 use Rattle.std.proofs.lemmas.Result.{err_from_is_err_and}
-use Rattle.book.proofs.Slots.{begin, enter, in_entry, whole}
+use Rattle.book.proofs.Slots.{begin, enter, in_entry}
 use Rattle.book.proofs.cursor.Cursor.table.Goals as goal
 
 pub loop-init : goal.loop-init
@@ -15,6 +14,3 @@ returns-in_err-entry g c =
 
 pub loop-preserved : goal.loop-preserved
 loop-preserved g c = enter c.loop.invariant g.met.T.Held.fair c.in_ok-entry.ensures c.loop-test.true
-
-pub returns : goal.returns
-returns g c = whole c.loop.invariant (omega arith)
