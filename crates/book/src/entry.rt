@@ -1,10 +1,10 @@
 // One entry of a book: the number of its slot, what the slot remembers, and what it holds.
 ghost use Rattle.std.specs.Prelude.{◌≡◌};
 ghost use Rattle.book.specs.Reading.{Entered, Fielded, Marked};
-ghost use Rattle.book.specs.Wanted.{entry_number, field, highest, mark, sequence, size};
+ghost use Rattle.book.specs.Wanted.{entry_number, field, size};
 
 use crate::cursor::Cursor;
-use crate::fault::{EntryFault, Misfit, NumberFault};
+use crate::fault::{EntryFault, Misfit};
 use crate::held::Held;
 use pegs::slot::Slot;
 
@@ -69,7 +69,7 @@ pub(crate) struct Entry<T> {
     pub(crate) slot: Slot<T>,
 }
 
-impl<'a> Cursor<'a> {
+impl Cursor<'_> {
     // The number that stands here, if it may.
     pub(crate) fn field(&mut self, field: Field) -> Result<u32, EntryFault>
         ensures { Fielded self.old field self.new result }

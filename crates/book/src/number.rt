@@ -14,7 +14,7 @@ pub struct Read {
     pub end: usize,
 }
 
-impl<'a> Cursor<'a> {
+impl Cursor<'_> {
     // No number stands here.
     fn no_number(&self, kind: NumberKind) -> NumberFault
         ensures { result ≡ record { place = self.now.at; kind = kind } }
@@ -92,6 +92,7 @@ pub(crate) fn write_number(out: &mut [u8], n: u32) -> usize
 {
     let mut left = n;
     let mut end = 0;
+    // stays: the number ends the loop, and not the slice, so an iterator over `out` would have an end that is never met.
     while left >= 128 {
         out[end] = (128 + left % 128) as u8;
         left /= 128;

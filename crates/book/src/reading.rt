@@ -5,13 +5,13 @@ ghost use Rattle.book.specs.Reading.{Counted, Exact, Formed, Reads, TableAnswere
 ghost use Rattle.book.specs.Wanted.{size};
 
 use crate::cursor::Cursor;
-use crate::entry::{Entry, Table};
-use crate::fault::{BookFault, EntryFault, NumberFault};
+use crate::entry::Table;
+use crate::fault::BookFault;
 use crate::held::Held;
 use pegs::slot::Slot;
 use pegs::tables::Tables;
 
-impl<'a> Cursor<'a> {
+impl Cursor<'_> {
     // The form number, which is 1.
     fn form(&mut self) -> Result<(), BookFault>
         ensures { Formed self.old self.new result }
