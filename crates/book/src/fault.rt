@@ -99,9 +99,8 @@ impl Misfit {
     {
         match self {
             Misfit::NumberTooHigh => EditRefusal::NumberTooHigh.number(),
-            Misfit::NotRising => UNFIT,
+            Misfit::NotRising | Misfit::NoMark => UNFIT,
             Misfit::SequenceZero => EditRefusal::SequenceZero.number(),
-            Misfit::NoMark => UNFIT,
             Misfit::StationTooHigh => EditRefusal::StationTooHigh.number(),
             Misfit::LevelTooHigh => EditRefusal::LevelTooHigh.number(),
             Misfit::LowAboveHigh => EditRefusal::LowAboveHigh.number(),
@@ -149,9 +148,7 @@ impl BookFault {
         match self {
             BookFault::Unread(fault) => fault.place,
             BookFault::Entry(fault) => fault.place(),
-            BookFault::Form(place) => place,
-            BookFault::Count(place) => place,
-            BookFault::Extra(place) => place,
+            BookFault::Form(place) | BookFault::Count(place) | BookFault::Extra(place) => place,
         }
     }
 
@@ -162,9 +159,7 @@ impl BookFault {
         match self {
             BookFault::Unread(_) => Layer::Number,
             BookFault::Entry(fault) => fault.layer(),
-            BookFault::Form(_) => Layer::Book,
-            BookFault::Count(_) => Layer::Book,
-            BookFault::Extra(_) => Layer::Book,
+            BookFault::Form(_) | BookFault::Count(_) | BookFault::Extra(_) => Layer::Book,
         }
     }
 
@@ -175,9 +170,7 @@ impl BookFault {
         match self {
             BookFault::Unread(_) => UNREAD,
             BookFault::Entry(fault) => fault.number(),
-            BookFault::Form(_) => UNFIT,
-            BookFault::Count(_) => UNFIT,
-            BookFault::Extra(_) => UNFIT,
+            BookFault::Form(_) | BookFault::Count(_) | BookFault::Extra(_) => UNFIT,
         }
     }
 }
