@@ -2,6 +2,7 @@
 use Rattle.std.specs.Prelude.{◌≡◌, ℕ, ◌+◌, ◌*◌, ◌%◌, ◌<◌, ◌≤◌, List, length, ℤ, Some, slice_index}
 use Rattle.pegs.specs.declared.peg.FixedLevel.{FixedLevel}
 use Rattle.pegs.specs.declared.slot.Slot.{Slot}
+use Rattle.rules.specs.declared.code.RoadCode as code
 use Rattle.rules.specs.declared.turn.Bend.{Bend}
 use Rattle.fitting.specs.declared.alignment.Standing.{Standing}
 use Rattle.fitting.specs.Levels.{AtLeast, AtMost, Fraction, level_at, stretch}
@@ -13,8 +14,9 @@ pub record Verdicts : Type 0 where
   pub grade : ℤ → ℕ → ℕ
   pub curve : Bend → ℕ → ℕ
 
-abbrev pub verdicts : (ℤ → ℕ → ℕ) → (Bend → ℕ → ℕ) → Verdicts
-verdicts grade curve = record { grade = grade; curve = curve }
+-- the verdicts of a code, by its trait's two
+abbrev pub verdicts : {C : Type 0} → code.Ghosts C → C → Verdicts
+verdicts bound c = record { grade = bound.grade_verdict c; curve = bound.curve_verdict c }
 
 -- the length of the i-th peg's curve
 abbrev pub len : List ℕ → ℕ → ℕ

@@ -5,6 +5,7 @@ ghost use Rattle.fitting.specs.Line.{OnRoad, Rising};
 ghost use Rattle.fitting.specs.Ready.{FixedOn, IsNotReady, NotRisingAt, OffRoadAt, Ready, SoundAlignment, in_force, not_ready_number, then_standing};
 
 use crate::alignment::{Alignment, InRange, Standing};
+use crate::grade_line::GradeLine;
 use pegs::peg::{FixedLevel, Peg};
 use pegs::slot::Slot;
 use rules::point::Point;
@@ -171,5 +172,14 @@ impl Alignment {
         ensures sound { SoundAlignment result.now self.now.fixed }
     {
         &self.pegs[..self.count]
+    }
+    // The same, with the fixed levels on it.
+    pub(crate) fn grade_line(&self) -> GradeLine<'_>
+        ensures { (result.pegs.now ≡ take self.now.count self.now.pegs) × (result.fixed.now ≡ self.now.fixed) }
+    {
+        GradeLine {
+            pegs: self.line(),
+            fixed: &self.fixed,
+        }
     }
 }

@@ -1,80 +1,82 @@
 // The rows of least totals, filled from the last peg back.
-ghost use Rattle.std.specs.Prelude.{◌≡◌, ℕ, ◌+◌, ◌*◌, ◌<◌, ◌≤◌, length, MatchBool, MatchResult};
-ghost use Rattle.fitting.specs.Ready.{SoundAlignment};
+ghost use Rattle.std.specs.Prelude.{◌≡◌, ℕ, ◌+◌, ◌*◌, ◌<◌, ◌≤◌, length, MatchBool, MatchOption};
 ghost use Rattle.fitting.specs.Rows.{LeastFrom, RowsFrom, none};
 ghost use Rattle.fitting.specs.Rules.{LastClosed, verdicts};
 ghost use Rattle.fitting.specs.Walked.{AllGrades, EndsFlat, LeastJoined, RowOpen, entry};
 
-use crate::alignment::Standing;
-use crate::rules_met::{may_join, peg_keeps};
-use pegs::peg::FixedLevel;
-use pegs::slot::Slot;
+use crate::grade_line::GradeLine;
+use crate::judge::Judge;
+use crate::rules_met::Span;
 use rules::code::RoadCode;
+use rules::length::Length;
 
-// The least entry of the row after peg t whose length may stand after `metres` at peg t.
-fn least_after(
-    pegs: &[Standing],
-    fixed: &[Slot<FixedLevel>],
-    store: &[u32],
-    t: usize,
-    metres: u32,
-) -> u32
-    requires sound { (SoundAlignment pegs.now fixed.now) × ((t + 1 < length pegs.now) × (length pegs.now * 401 ≤ length store.now)) }
-    requires flat { EndsFlat pegs.now store.now (t + 1) }
-    requires metres { (metres ≤ 2000) × ((t ≡ 0 → metres ≡ 0)) }
-    ensures { LeastJoined pegs.now fixed.now store.now t metres 401 result }
-{
-    let mut low = u32::MAX;
-    for j in 0..401u32 {
-        let total = store[(t + 1) * 401 + j as usize];
-        if total < low && may_join(pegs, fixed, t, metres, 5 * j) {
-            low = total;
+impl GradeLine<'_> {
+    // The least entry of the row after peg t whose length may stand after `left` at peg t.
+    fn least_after(&self, store: &[u32], t: usize, left: Length) -> u32
+        requires there { (t + 1 < length self.now.pegs.now) × (length self.now.pegs.now * 401 ≤ length store.now) }
+        requires flat { EndsFlat self.now.pegs.now store.now (t + 1) }
+        requires first { t ≡ 0 → left.metres ≡ 0 }
+        ensures { LeastJoined self.now.pegs.now self.now.fixed.now store.now t left.metres 401 result }
+    {
+        let mut low = u32::MAX;
+        for j in 0..401u32 {
+            let total = store[(t + 1) * 401 + j as usize];
+            if total < low && self.may_join(t, left, Length { metres: 5 * j }) {
+                low = total;
+            }
+        }
+        low
+    }
+}
+
+impl<C: RoadCode> Judge<'_, C> {
+    // The least total from peg t on where t has the length 5 k, by the row after.
+    fn entry_of(&self, store: &[u32], t: usize, k: u32) -> u32
+        requires there { (t < length self.now.line.pegs.now) × ((k < 401) × (length self.now.line.pegs.now * 401 ≤ length store.now)) }
+        requires grades { AllGrades (verdicts C.RoadCode self.now.code.now) self.now.line.pegs.now }
+        requires after { RowsFrom (verdicts C.RoadCode self.now.code.now) self.now.line.pegs.now self.now.line.fixed.now store.now (t + 1) }
+        ensures { LeastFrom (verdicts C.RoadCode self.now.code.now) self.now.line.pegs.now self.now.line.fixed.now t k result }
+    {
+        let own = Length { metres: 5 * k };
+        if !self.peg_keeps(t, own) {
+            return u32::MAX;
+        }
+        if t + 1 == self.line.pegs.len() {
+            return own.metres;
+        }
+        self.line
+            .least_after(store, t, own)
+            .saturating_add(own.metres)
+    }
+
+    // Fills the row of peg t from the row after.
+    fn fill_row(&self, store: &mut [u32], t: usize)
+        requires there { (t < length self.now.line.pegs.now) × (length self.now.line.pegs.now * 401 ≤ length store.old) }
+        requires grades { AllGrades (verdicts C.RoadCode self.now.code.now) self.now.line.pegs.now }
+        requires after { RowsFrom (verdicts C.RoadCode self.now.code.now) self.now.line.pegs.now self.now.line.fixed.now store.old (t + 1) }
+        ensures filled { RowsFrom (verdicts C.RoadCode self.now.code.now) self.now.line.pegs.now self.now.line.fixed.now store.new t }
+        ensures room { length store.new ≡ length store.old }
+    {
+        for k in 0..401u32 {
+            let least = self.entry_of(store, t, k);
+            store[t * 401 + k as usize] = least;
         }
     }
-    low
-}
 
-// The least total from peg t on where t has the length 5 k, by the row after.
-fn entry_of<C: RoadCode>(
-    code: &C,
-    pegs: &[Standing],
-    fixed: &[Slot<FixedLevel>],
-    store: &[u32],
-    t: usize,
-    k: u32,
-) -> u32
-    requires sound { (SoundAlignment pegs.now fixed.now) × ((t < length pegs.now) × ((k < 401) × (length pegs.now * 401 ≤ length store.now))) }
-    requires grades { AllGrades (verdicts (C.grade_verdict code.now) (C.curve_verdict code.now)) pegs.now }
-    requires after { RowsFrom (verdicts (C.grade_verdict code.now) (C.curve_verdict code.now)) pegs.now fixed.now store.now (t + 1) }
-    ensures { LeastFrom (verdicts (C.grade_verdict code.now) (C.curve_verdict code.now)) pegs.now fixed.now t k result }
-{
-    let metres = 5 * k;
-    if !peg_keeps(code, pegs, fixed, t, metres) {
-        return u32::MAX;
-    }
-    if t + 1 == pegs.len() {
-        return metres;
-    }
-    least_after(pegs, fixed, store, t, metres).saturating_add(metres)
-}
-
-// Fills the row of peg t from the row after.
-pub(crate) fn fill_row<C: RoadCode>(
-    code: &C,
-    pegs: &[Standing],
-    fixed: &[Slot<FixedLevel>],
-    store: &mut [u32],
-    t: usize,
-)
-    requires sound { (SoundAlignment pegs.now fixed.now) × ((t < length pegs.now) × (length pegs.now * 401 ≤ length store.old)) }
-    requires grades { AllGrades (verdicts (C.grade_verdict code.now) (C.curve_verdict code.now)) pegs.now }
-    requires after { RowsFrom (verdicts (C.grade_verdict code.now) (C.curve_verdict code.now)) pegs.now fixed.now store.old (t + 1) }
-    ensures filled { RowsFrom (verdicts (C.grade_verdict code.now) (C.curve_verdict code.now)) pegs.now fixed.now store.new t }
-    ensures room { length store.new ≡ length store.old }
-{
-    for k in 0..401u32 {
-        let least = entry_of(code, pegs, fixed, store, t, k);
-        store[t * 401 + k as usize] = least;
+    // Fills the rows from the last peg back, up to the first of them that is closed.
+    pub(crate) fn fill_rows(&self, store: &mut [u32]) -> Option<usize>
+        requires room { length self.now.line.pegs.now * 401 ≤ length store.old }
+        requires grades { AllGrades (verdicts C.RoadCode self.now.code.now) self.now.line.pegs.now }
+        ensures filled { MatchOption result (RowsFrom (verdicts C.RoadCode self.now.code.now) self.now.line.pegs.now self.now.line.fixed.now store.new 0 × (entry store.new 0 0 < none)) (λ t. LastClosed (verdicts C.RoadCode self.now.code.now) self.now.line.pegs.now self.now.line.fixed.now t) }
+        ensures room { length store.new ≡ length store.old }
+    {
+        for t in (0..self.line.pegs.len()).rev() {
+            self.fill_row(store, t);
+            if is_closed(store, t) {
+                return Some(t);
+            }
+        }
+        None
     }
 }
 
@@ -89,25 +91,4 @@ fn is_closed(store: &[u32], t: usize) -> bool
         }
     }
     true
-}
-
-// Fills the rows from the last peg back, up to the first of them that is closed.
-pub(crate) fn fill_rows<C: RoadCode>(
-    code: &C,
-    pegs: &[Standing],
-    fixed: &[Slot<FixedLevel>],
-    store: &mut [u32],
-) -> Result<(), usize>
-    requires sound { (SoundAlignment pegs.now fixed.now) × (length pegs.now * 401 ≤ length store.old) }
-    requires grades { AllGrades (verdicts (C.grade_verdict code.now) (C.curve_verdict code.now)) pegs.now }
-    ensures filled { MatchResult result (λ _. RowsFrom (verdicts (C.grade_verdict code.now) (C.curve_verdict code.now)) pegs.now fixed.now store.new 0 × (entry store.new 0 0 < none)) (λ t. LastClosed (verdicts (C.grade_verdict code.now) (C.curve_verdict code.now)) pegs.now fixed.now t) }
-    ensures room { length store.new ≡ length store.old }
-{
-    for t in (0..pegs.len()).rev() {
-        fill_row(code, pegs, fixed, store, t);
-        if is_closed(store, t) {
-            return Err(t);
-        }
-    }
-    Ok(())
 }
