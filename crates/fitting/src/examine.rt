@@ -64,15 +64,12 @@ fn lengths_for(lengths: &[u32], count: usize) -> bool
     requires { 2 ≤ count }
     ensures { Decides result (LengthsFor count lengths.now) }
 {
-    if lengths.len() != count || lengths[0] != 0 || lengths[count - 1] != 0 {
-        return false;
-    }
-    for i in 0..count {
-        if lengths[i] % 5 != 0 || lengths[i] > 2000 {
-            return false;
-        }
-    }
-    true
+    lengths.len() == count
+        && lengths[0] == 0
+        && lengths[count - 1] == 0
+        && lengths
+            .iter()
+            .all(|metres| *metres % 5 == 0 && *metres <= 2000)
 }
 
 impl<C: RoadCode> Judge<'_, C> {

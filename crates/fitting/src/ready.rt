@@ -1,5 +1,5 @@
 // The alignment of a profile: its pegs in force, or why it is not ready.
-ghost use Rattle.std.specs.Prelude.{◌≡◌, ◌+◌, ◌<◌, ◌≤◌, [], ◌++◌, length, take, Some, Decides, MatchResult};
+ghost use Rattle.std.specs.Prelude.{◌≡◌, ◌+◌, ◌<◌, ◌≤◌, [], ◌++◌, length, take, Some, Decides, MatchOption, MatchResult};
 ghost use Rattle.pegs.specs.declared.peg.FixedLevel.{FixedLevel};
 ghost use Rattle.fitting.specs.Line.{OnRoad, Rising};
 ghost use Rattle.fitting.specs.Ready.{FixedOn, IsNotReady, NotRisingAt, OffRoadAt, Ready, SoundAlignment, in_force, not_ready_number, then_standing};
@@ -77,28 +77,22 @@ fn collect(slots: &[Slot<Peg>], pegs: &mut [Standing]) -> usize
     ensures most { (result ≤ 40) × (length pegs.new ≡ 40) }
 {
     let mut count = 0;
-    for n in 0..40usize {
-        count = add(n as u32, slots[n].held, pegs, count);
+    for (n, slot) in slots.iter().enumerate() {
+        count = add(n as u32, slot.held, pegs, count);
     }
     count
 }
 
 // The first peg from which the station doesn't rise by 10 m.
-fn check_rising(pegs: &[Standing]) -> Result<(), usize>
+fn first_not_rising(pegs: &[Standing]) -> Option<usize>
     requires { 2 ≤ length pegs.now }
-    ensures { MatchResult result (λ _. Rising pegs.now) (λ i. NotRisingAt pegs.now i) }
+    ensures { MatchOption result (Rising pegs.now) (λ i. NotRisingAt pegs.now i) }
 {
-    for i in 0..pegs.len() - 1 {
-        if pegs[i + 1]
-            .point
-            .station
-            .saturating_sub(pegs[i].point.station)
-            < 10
-        {
-            return Err(i);
-        }
-    }
-    Ok(())
+    pegs.iter().zip(&pegs[1..]).position(|(from, to)| to
+        .point
+        .station
+        .saturating_sub(from.point.station)
+        < 10)
 }
 
 // Whether a fixed level, if there is one, lies between two stations.
@@ -112,18 +106,15 @@ fn lies_between(held: Option<FixedLevel>, first: u32, last: u32) -> bool
 }
 
 // The first fixed level that lies off the road.
-fn check_fixed(pegs: &[Standing], fixed: &[Slot<FixedLevel>]) -> Result<(), usize>
+fn first_off(pegs: &[Standing], fixed: &[Slot<FixedLevel>]) -> Option<usize>
     requires { (2 ≤ length pegs.now) × (length fixed.now ≡ 16) }
-    ensures { MatchResult result (λ _. FixedOn pegs.now fixed.now) (λ n. (n ≤ 15) × OffRoadAt pegs.now fixed.now n) }
+    ensures { MatchOption result (FixedOn pegs.now fixed.now) (λ n. (n ≤ 15) × OffRoadAt pegs.now fixed.now n) }
 {
     let first = pegs[0].point.station;
     let last = pegs[pegs.len() - 1].point.station;
-    for n in 0..16usize {
-        if !lies_between(fixed[n].held, first, last) {
-            return Err(n);
-        }
-    }
-    Ok(())
+    fixed
+        .iter()
+        .position(|slot| !lies_between(slot.held, first, last))
 }
 
 // Whether pegs and fixed levels are ready, or the first reason against it.
@@ -134,18 +125,15 @@ fn check(pegs: &[Standing], fixed: &[Slot<FixedLevel>]) -> Result<(), NotReady>
     if pegs.len() < 2 {
         return Err(NotReady::TooFewPegs);
     }
-    match check_rising(pegs) {
-        Ok(()) => {}
-        Err(i) => {
-            return Err(NotReady::StationsNotRising {
-                peg: pegs[i].number,
-            });
-        }
+    if let Some(i) = first_not_rising(pegs) {
+        return Err(NotReady::StationsNotRising {
+            peg: pegs[i].number,
+        });
     }
-    match check_fixed(pegs, fixed) {
-        Ok(()) => Ok(()),
-        Err(n) => Err(NotReady::FixedLevelOff { number: n as u32 }),
+    if let Some(n) = first_off(pegs, fixed) {
+        return Err(NotReady::FixedLevelOff { number: n as u32 });
     }
+    Ok(())
 }
 
 impl Alignment {
