@@ -1,10 +1,11 @@
 -- The verdicts of the Indian standard's road code. Assumes nothing.
-use Rattle.std.specs.Prelude.{◌≡◌, ℕ, ◌+◌, ◌-◌, ◌*◌, ◌≤◌, Bool, cond, ℤ, nat_le, nat_lt, unsigned_abs}
+use Rattle.std.specs.Prelude.{◌≡◌, ℕ, ◌+◌, ◌-◌, ◌*◌, ◌≤◌, ◌≢◌, Bool, cond, Result, MatchResult, ℤ, nat_le, nat_lt, unsigned_abs, unwrap_or}
 use Rattle.rules.specs.declared.irc.Clause.{Clause}
 use Rattle.rules.specs.declared.irc.Clause.TheVariants.{Gradient, LeastLength, StoppingSight, IntermediateSight, OvertakingSight, ValleySight}
 use Rattle.rules.specs.declared.irc.GradientLimit.{GradientLimit}
 use Rattle.rules.specs.declared.irc.GradientLimit.TheVariants.{OneIn, PerThousand}
 use Rattle.rules.specs.declared.irc.SightRule.{SightRule}
+use Rattle.rules.specs.declared.irc.UnknownClause.{UnknownClause}
 use Rattle.rules.specs.declared.refusal.Refusal.{Refusal}
 use Rattle.rules.specs.declared.refusal.Refusal.TheVariants.{StationTooHigh, LevelTooHigh, UnknownRoadFigure, OvertakingTooSlow, UnlawfulTable, LengthOutOfStep, StationsNotRising}
 use Rattle.rules.specs.declared.road.GradientKind.{GradientKind}
@@ -31,6 +32,10 @@ clause_number StoppingSight = 3
 clause_number IntermediateSight = 4
 clause_number OvertakingSight = 5
 clause_number ValleySight = 6
+
+-- the clause that is told by a number, or that none is told by it
+abbrev pub ClauseOf : ℕ → Result Clause UnknownClause → Type 0
+ClauseOf number r = MatchResult r (λ x. clause_number x ≡ number) (λ e. (e.0 ≡ number) × ((x : Clause) → clause_number x ≢ number))
 
 -- the first for ruling, the second for limiting, the third for exceptional
 abbrev pub by_gradient : GradientKind → GradientLimit → GradientLimit → GradientLimit → GradientLimit
@@ -62,7 +67,7 @@ irc_grade r rise run = cond (grade_within (gradient_limit r) rise run) 0 (clause
 abbrev pub summit_rule : Sight → Asked → SightRule
 summit_rule Stopping a = record { distance = a.stopping; q = 4400; clause = StoppingSight }
 summit_rule Intermediate a = record { distance = 2 * a.stopping; q = 9600; clause = IntermediateSight }
-summit_rule Overtaking a = record { distance = a.overtaking; q = 9600; clause = OvertakingSight }
+summit_rule Overtaking a = record { distance = unwrap_or a.overtaking 0; q = 9600; clause = OvertakingSight }
 
 -- through a valley: the stopping distance, whatever sight the road asks over summits
 abbrev pub valley_rule : Asked → SightRule

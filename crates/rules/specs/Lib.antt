@@ -1,3 +1,4 @@
+pub mod Told
 pub mod Refusals
 pub mod Points
 pub mod Turns

@@ -1,5 +1,5 @@
 -- The standard's tables of speeds, and of what each speed asks. Assumes nothing.
-use Rattle.std.specs.Prelude.{◌≤◌}
+use Rattle.std.specs.Prelude.{◌≤◌, Some, None, IfSome}
 use Rattle.rules.specs.declared.road.Class.{Class}
 use Rattle.rules.specs.declared.road.Class.TheVariants.{NhSh, Mdr, Odr, Vr}
 use Rattle.rules.specs.declared.road.Terrain.{Terrain}
@@ -39,21 +39,21 @@ speed_in Vr Steep k = by_kind k Kmh25 Kmh20
 abbrev pub design_speed : Road → DesignSpeed
 design_speed r = speed_in r.class r.terrain r.speed
 
--- sight distances and least length (m) and free change of grade (thousandths) at each speed; overtaking 0 where there is none
+-- sight distances and least length (m) and free change of grade (thousandths) at each speed; no overtaking distance where there is none
 abbrev pub asked : DesignSpeed → Asked
-asked Kmh20 = record { kmh = 20; stopping = 20; overtaking = 0; free_change = 15; least_length = 15 }
-asked Kmh25 = record { kmh = 25; stopping = 25; overtaking = 0; free_change = 15; least_length = 15 }
-asked Kmh30 = record { kmh = 30; stopping = 30; overtaking = 0; free_change = 15; least_length = 15 }
-asked Kmh35 = record { kmh = 35; stopping = 45; overtaking = 0; free_change = 15; least_length = 15 }
-asked Kmh40 = record { kmh = 40; stopping = 45; overtaking = 165; free_change = 12; least_length = 20 }
-asked Kmh50 = record { kmh = 50; stopping = 60; overtaking = 235; free_change = 10; least_length = 30 }
-asked Kmh65 = record { kmh = 65; stopping = 90; overtaking = 340; free_change = 8; least_length = 40 }
-asked Kmh80 = record { kmh = 80; stopping = 120; overtaking = 470; free_change = 6; least_length = 50 }
-asked Kmh100 = record { kmh = 100; stopping = 180; overtaking = 640; free_change = 5; least_length = 60 }
+asked Kmh20 = record { kmh = 20; stopping = 20; overtaking = None; free_change = 15; least_length = 15 }
+asked Kmh25 = record { kmh = 25; stopping = 25; overtaking = None; free_change = 15; least_length = 15 }
+asked Kmh30 = record { kmh = 30; stopping = 30; overtaking = None; free_change = 15; least_length = 15 }
+asked Kmh35 = record { kmh = 35; stopping = 45; overtaking = None; free_change = 15; least_length = 15 }
+asked Kmh40 = record { kmh = 40; stopping = 45; overtaking = Some 165; free_change = 12; least_length = 20 }
+asked Kmh50 = record { kmh = 50; stopping = 60; overtaking = Some 235; free_change = 10; least_length = 30 }
+asked Kmh65 = record { kmh = 65; stopping = 90; overtaking = Some 340; free_change = 8; least_length = 40 }
+asked Kmh80 = record { kmh = 80; stopping = 120; overtaking = Some 470; free_change = 6; least_length = 50 }
+asked Kmh100 = record { kmh = 100; stopping = 180; overtaking = Some 640; free_change = 5; least_length = 60 }
 
 -- the greatest figures of the table
 pub record WithinTable (a : Asked) : Type 0 where
   pub stopping : a.stopping ≤ 180
-  pub overtaking : a.overtaking ≤ 640
+  pub overtaking : IfSome a.overtaking (λ s. s ≤ 640)
   pub free : a.free_change ≤ 15
   pub least : a.least_length ≤ 60

@@ -1,7 +1,9 @@
 // A road code: what a standard says of a grade and of a curve.
-ghost use Rattle.std.specs.Prelude.{◌≡◌, ℕ, ℤ};
+ghost use Rattle.std.specs.Prelude.{ℕ, ℤ};
+ghost use Rattle.rules.specs.Told.{Told};
 ghost use Rattle.rules.specs.declared.turn.Bend.{Bend};
 
+use crate::clause::ClauseNumber;
 use crate::grade::Grade;
 use crate::length::Length;
 use crate::turn::{Bend, Turn};
@@ -13,9 +15,9 @@ pub trait RoadCode {
 
     ghost curve_verdict: { Self → Bend → ℕ → ℕ };
 
-    fn grade(&self, grade: Grade) -> u8
-        ensures { result ≡ grade_verdict self.now grade.rise grade.run };
+    fn grade(&self, grade: Grade) -> Result<(), ClauseNumber>
+        ensures { Told (grade_verdict self.now grade.rise grade.run) result };
 
-    fn curve(&self, turn: Turn, at: Length) -> u8
-        ensures { result ≡ curve_verdict self.now turn.bend at.metres };
+    fn curve(&self, turn: Turn, at: Length) -> Result<(), ClauseNumber>
+        ensures { Told (curve_verdict self.now turn.bend at.metres) result };
 }

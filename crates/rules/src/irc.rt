@@ -1,11 +1,12 @@
 // The road code of the Indian standard.
-ghost use Rattle.std.specs.Prelude.{◌≡◌, ◌≤◌, MatchOption, MatchResult, ◌≢◌};
-ghost use Rattle.rules.specs.declared.irc.Clause.{Clause};
-ghost use Rattle.rules.specs.Irc.{IrcRefused, OvertakingGiven, clause_number, curve_by, grade_within, irc_curve, irc_grade, gradient_limit, seen, sight_rule};
+ghost use Rattle.std.specs.Prelude.{◌≡◌, ◌≤◌, MatchResult};
+ghost use Rattle.rules.specs.Irc.{ClauseOf, IrcRefused, OvertakingGiven, clause_number, curve_by, grade_within, irc_curve, irc_grade, gradient_limit, seen, sight_rule};
 ghost use Rattle.rules.specs.Laws.{LongerStillPasses};
 ghost use Rattle.rules.specs.Roads.{Named};
 ghost use Rattle.rules.specs.Speeds.{WithinTable, asked as asked_at, design_speed};
+ghost use Rattle.rules.specs.Told.{Told};
 
+use crate::clause::ClauseNumber;
 use crate::code::RoadCode;
 use crate::grade::Grade;
 use crate::length::Length;
@@ -39,19 +40,36 @@ impl Clause {
             Clause::ValleySight => 6,
         }
     }
+}
 
-    // The clause that is told by a number; none by any other.
-    pub fn told_by(number: u8) -> Option<Clause>
-        ensures { MatchOption result ((x : Clause) → clause_number x ≢ number) (λ x. clause_number x ≡ number) }
-    {
+impl From<Clause> for ClauseNumber {
+    ghost from_gives = { λ clause told. told.number ≡ clause_number clause };
+
+    fn from(clause: Clause) -> ClauseNumber {
+        ClauseNumber {
+            number: clause.number(),
+        }
+    }
+}
+
+// A number that tells no clause.
+#[derive(Clone, Copy)]
+pub struct UnknownClause(pub u8);
+
+impl TryFrom<u8> for Clause {
+    type Error = UnknownClause;
+
+    ghost try_from_gives = { ClauseOf };
+
+    fn try_from(number: u8) -> Result<Self, UnknownClause> {
         match number {
-            1 => Some(Clause::Gradient),
-            2 => Some(Clause::LeastLength),
-            3 => Some(Clause::StoppingSight),
-            4 => Some(Clause::IntermediateSight),
-            5 => Some(Clause::OvertakingSight),
-            6 => Some(Clause::ValleySight),
-            _ => None,
+            1 => Ok(Clause::Gradient),
+            2 => Ok(Clause::LeastLength),
+            3 => Ok(Clause::StoppingSight),
+            4 => Ok(Clause::IntermediateSight),
+            5 => Ok(Clause::OvertakingSight),
+            6 => Ok(Clause::ValleySight),
+            _ => Err(UnknownClause(number)),
         }
     }
 }
@@ -137,7 +155,7 @@ fn rule_for(road: Road, kind: Kind) -> SightRule
                 clause: Clause::IntermediateSight,
             },
             Sight::Overtaking => SightRule {
-                distance: asked.overtaking,
+                distance: asked.overtaking.unwrap_or(0),
                 q: 9600,
                 clause: Clause::OvertakingSight,
             },
@@ -165,21 +183,27 @@ fn sees(rule: SightRule, change: u64, base: u64, length: u64) -> bool
     }
 }
 
-// The clause that refuses a curve, or 0: free change first, then the least length, then the rule of sight.
-fn judge(asked: Asked, rule: SightRule, change: u64, base: u64, length: u32) -> u8
+// Whether a curve passes, or the clause that refuses it: free change first, then the least length, then the rule of sight.
+fn judge(
+    asked: Asked,
+    rule: SightRule,
+    change: u64,
+    base: u64,
+    length: u32,
+) -> Result<(), ClauseNumber>
     requires asked { WithinTable asked }
     requires rule { (rule.distance ≤ 640) × (rule.q ≤ 9600) }
     requires turn { (change ≤ 180000000000) × ((base ≤ 100000000) × (length ≤ 2000)) }
-    ensures { result ≡ curve_by asked rule change base length }
+    ensures { Told (curve_by asked rule change base length) result }
 {
     if change <= asked.free_change as u64 * base {
-        0
+        Ok(())
     } else if length < asked.least_length {
-        Clause::LeastLength.number()
+        Err(Clause::LeastLength.into())
     } else if sees(rule, change, base, length as u64) {
-        0
+        Ok(())
     } else {
-        rule.clause.number()
+        Err(rule.clause.into())
     }
 }
 
@@ -222,15 +246,15 @@ impl RoadCode for Irc {
 
     ghost curve_verdict = { λ c. irc_curve c.road };
 
-    fn grade(&self, grade: Grade) -> u8 {
+    fn grade(&self, grade: Grade) -> Result<(), ClauseNumber> {
         if limit_for(self.road).allows(grade) {
-            0
+            Ok(())
         } else {
-            Clause::Gradient.number()
+            Err(Clause::Gradient.into())
         }
     }
 
-    fn curve(&self, turn: Turn, at: Length) -> u8 {
+    fn curve(&self, turn: Turn, at: Length) -> Result<(), ClauseNumber> {
         let asked = asked_of(self.road);
         let rule = rule_for(self.road, turn.kind());
         judge(asked, rule, turn.change(), turn.base(), at.metres)

@@ -1,6 +1,7 @@
 // The road rules: grades, turns, lengths, and the codes that judge them.
 #![tactic(auto)]
 
+pub mod clause;
 pub mod code;
 pub mod grade;
 pub mod irc;

@@ -2,6 +2,7 @@
 ghost use Rattle.std.specs.Prelude.{◌≡◌, ℕ, MatchResult};
 ghost use Rattle.rules.specs.Shortest.{NonePasses, ShortestPassing};
 
+use crate::clause::ClauseNumber;
 use crate::code::RoadCode;
 use crate::length::Length;
 use crate::turn::Turn;
@@ -9,21 +10,22 @@ use crate::turn::Turn;
 // No length passes; the clause is the one at 2,000 m, the longest.
 #[derive(Clone, Copy)]
 pub struct NoLength {
-    pub clause: u8,
+    pub clause: ClauseNumber,
 }
 
 // The shortest length that the code passes at the turn, or that there is none.
 pub fn shortest<C: RoadCode>(code: &C, turn: Turn) -> Result<Length, NoLength>
-    ensures { MatchResult result (λ l. ShortestPassing (C.curve_verdict code.now turn.bend) l.metres) (λ e. NonePasses (C.curve_verdict code.now turn.bend) × (e.clause ≡ C.curve_verdict code.now turn.bend 2000)) }
+    ensures { MatchResult result (λ l. ShortestPassing (C.curve_verdict code.now turn.bend) l.metres) (λ e. NonePasses (C.curve_verdict code.now turn.bend) × (e.clause.number ≡ C.curve_verdict code.now turn.bend 2000)) }
 {
-    for step in 0..401u32 {
+    for step in 0..400u32 {
         let length = Length { metres: 5 * step };
-        if code.curve(turn, length) == 0 {
+        if code.curve(turn, length).is_ok() {
             return Ok(length);
         }
     }
     let longest = Length { metres: 2000 };
-    Err(NoLength {
-        clause: code.curve(turn, longest),
-    })
+    match code.curve(turn, longest) {
+        Ok(()) => Ok(longest),
+        Err(clause) => Err(NoLength { clause }),
+    }
 }

@@ -1,24 +1,18 @@
 // The stricter of two codes: what either refuses, it refuses.
-ghost use Rattle.std.specs.Prelude.{◌≡◌};
 ghost use Rattle.rules.specs.Laws.{PassesBoth};
-ghost use Rattle.rules.specs.Stricter.{stricter, stricter_of};
+ghost use Rattle.rules.specs.Stricter.{stricter_of};
 
+use crate::clause::ClauseNumber;
 use crate::code::RoadCode;
 use crate::grade::Grade;
 use crate::length::Length;
 use crate::turn::Turn;
 
-// The first code's clause, or if that is 0 the second one's.
+// The first code's clause, or if that passes the second one's.
 #[derive(Clone, Copy)]
 pub struct Stricter<A, B> {
     pub first: A,
     pub second: B,
-}
-
-fn clause_of(first: u8, second: u8) -> u8
-    ensures { result ≡ stricter first second }
-{
-    if first == 0 { second } else { first }
 }
 
 impl<A: RoadCode, B: RoadCode> RoadCode for Stricter<A, B> {
@@ -26,12 +20,14 @@ impl<A: RoadCode, B: RoadCode> RoadCode for Stricter<A, B> {
 
     ghost curve_verdict = { λ s. stricter_of (A.RoadCode.curve_verdict s.first) (B.RoadCode.curve_verdict s.second) };
 
-    fn grade(&self, grade: Grade) -> u8 {
-        clause_of(self.first.grade(grade), self.second.grade(grade))
+    fn grade(&self, grade: Grade) -> Result<(), ClauseNumber> {
+        self.first.grade(grade)?;
+        self.second.grade(grade)
     }
 
-    fn curve(&self, turn: Turn, at: Length) -> u8 {
-        clause_of(self.first.curve(turn, at), self.second.curve(turn, at))
+    fn curve(&self, turn: Turn, at: Length) -> Result<(), ClauseNumber> {
+        self.first.curve(turn, at)?;
+        self.second.curve(turn, at)
     }
 }
 

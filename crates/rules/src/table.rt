@@ -1,7 +1,9 @@
 // A road code over rows that the office keeps: how long curves must be, by the change of grade.
 ghost use Rattle.std.specs.Prelude.{◌≡◌, ◌<◌, ◌≤◌, length, Decides, MatchOption, MatchResult};
 ghost use Rattle.rules.specs.Tables.{AboveEarlier, AllLawful, FirstRowDecides, FirstUnlawful, Lawful, RowInRange, TableRefused, fits as fits_row, kind_number, row_verdict, table_curve, table_grade, verdict_of};
+ghost use Rattle.rules.specs.Told.{Told};
 
+use crate::clause::ClauseNumber;
 use crate::code::RoadCode;
 use crate::grade::Grade;
 use crate::length::Length;
@@ -26,7 +28,7 @@ pub struct LengthTable<'a> {
 }
 
 // The clause where no row reaches a turn's change of grade.
-const NO_ROW: u8 = 255;
+const NO_ROW: ClauseNumber = ClauseNumber { number: 255 };
 
 impl Kind {
     // The figure that rows know the kind by.
@@ -59,14 +61,14 @@ impl Row {
         self.kind == kind && change <= self.change as u64 * base
     }
 
-    // The clause of the row at a length, or 0.
-    fn verdict(self, length: u32) -> u8
-        ensures { result ≡ row_verdict self length }
+    // What the row says of a length: its clause where the length is below the least.
+    fn verdict(self, length: u32) -> Result<(), ClauseNumber>
+        ensures { Told (row_verdict self length) result }
     {
         if length < self.least {
-            self.clause.min(255) as u8
+            ClauseNumber::told(self.clause.min(255) as u8)
         } else {
-            0
+            Ok(())
         }
     }
 }
@@ -97,16 +99,22 @@ fn first_unlawful(rows: &[Row]) -> Option<usize>
 }
 
 // What the first row that fits says of a length.
-fn verdict_by(rows: &[Row], kind: u32, change: u64, base: u64, length: u32) -> u8
+fn verdict_by(
+    rows: &[Row],
+    kind: u32,
+    change: u64,
+    base: u64,
+    length: u32,
+) -> Result<(), ClauseNumber>
     requires { base ≤ 100000000 }
-    ensures { result ≡ verdict_of kind change base rows.now length }
+    ensures { Told (verdict_of kind change base rows.now length) result }
 {
     for row in rows {
         if row.fits(kind, change, base) {
             return row.verdict(length);
         }
     }
-    NO_ROW
+    Err(NO_ROW)
 }
 
 impl<'a> LengthTable<'a> {
@@ -141,15 +149,15 @@ impl<'a> RoadCode for LengthTable<'a> {
 
     ghost curve_verdict = { λ t. table_curve t.rows.now };
 
-    fn grade(&self, grade: Grade) -> u8 {
+    fn grade(&self, grade: Grade) -> Result<(), ClauseNumber> {
         if grade.rise.unsigned_abs() > self.bound as u64 * grade.run as u64 {
-            self.clause
+            ClauseNumber::told(self.clause)
         } else {
-            0
+            Ok(())
         }
     }
 
-    fn curve(&self, turn: Turn, at: Length) -> u8 {
+    fn curve(&self, turn: Turn, at: Length) -> Result<(), ClauseNumber> {
         verdict_by(
             self.rows,
             turn.kind().number(),

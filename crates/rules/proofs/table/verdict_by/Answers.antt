@@ -8,7 +8,7 @@ pub returns-then-fits : goal.returns-then-fits
 returns-then-fits c =
     let a = c.args in
     let found = rest_fits a.kind a.change a.base a.length a.rows.now c.loop-row.row-index c.loop-row-test.true c.if-fits.ensures in
-    c.verdict.ensures ∙ sym (c.loop-row.invariant ∙ found)
+    rw (c.loop-row.invariant ∙ found) c.verdict.ensures
 
 pub loop-row-preserved : goal.loop-row-preserved
 loop-row-preserved c =
