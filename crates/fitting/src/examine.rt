@@ -82,13 +82,17 @@ impl<C: RoadCode> Judge<'_, C> {
         let line = self.line;
         let peg = line.pegs[i].number;
         let left = Length { metres: lengths[i] };
-        self.check_curve(i, left)
-            .map_err(|clause| Broken::Curve { peg, clause })?;
+        self.check_curve(i, left).map_err(|clause| Broken::Curve {
+            peg,
+            clause: clause.number,
+        })?;
         if i + 1 == line.pegs.len() {
             return Ok(());
         }
-        self.check_grade(i)
-            .map_err(|clause| Broken::Grade { peg, clause })?;
+        self.check_grade(i).map_err(|clause| Broken::Grade {
+            peg,
+            clause: clause.number,
+        })?;
         let right = Length {
             metres: lengths[i + 1],
         };

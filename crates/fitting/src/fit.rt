@@ -63,13 +63,12 @@ impl<C: RoadCode> Judge<'_, C> {
         ensures { MatchResult result (λ _. GradesPass (verdicts C.RoadCode self.now.code.now) self.now.line.pegs.now) (λ e. GradeTold (verdicts C.RoadCode self.now.code.now) self.now.line.pegs.now e) }
     {
         let pegs = self.line.pegs;
-        for i in 0..pegs.len() - 1 {
-            if let Err(clause) = self.check_grade(i) {
-                return Err(NoFit::Grade {
-                    peg: pegs[i].number,
-                    clause,
-                });
-            }
+        for (i, peg) in pegs[..pegs.len() - 1].iter().enumerate() {
+            let peg = peg.number;
+            self.check_grade(i).map_err(|clause| NoFit::Grade {
+                peg,
+                clause: clause.number,
+            })?;
         }
         Ok(())
     }
@@ -79,11 +78,11 @@ impl<C: RoadCode> Judge<'_, C> {
         ensures { MatchResult result (λ _. TurnsPass (verdicts C.RoadCode self.now.code.now) self.now.line.pegs.now) (λ e. TurnTold (verdicts C.RoadCode self.now.code.now) self.now.line.pegs.now e) }
     {
         let pegs = self.line.pegs;
-        for i in 1..pegs.len() - 1 {
-            if let Err(none) = shortest(self.code, self.line.turn_at(i)) {
+        for (i, peg) in pegs[1..pegs.len() - 1].iter().enumerate() {
+            if let Err(none) = shortest(self.code, self.line.turn_at(i + 1)) {
                 return Err(NoFit::Turn {
-                    peg: pegs[i].number,
-                    clause: none.clause,
+                    peg: peg.number,
+                    clause: none.clause.number,
                 });
             }
         }

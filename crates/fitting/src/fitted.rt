@@ -26,14 +26,8 @@ impl GradeLine<'_> {
         requires { OnRoad self.now.pegs.now station }
         ensures { (result + 1 < length self.now.pegs.now) × (OnStretch self.now.pegs.now result station) }
     {
-        let pegs = self.pegs;
-        let mut at = 0;
-        for i in 1..pegs.len() - 1 {
-            if pegs[i].point.station <= station {
-                at = i;
-            }
-        }
-        at
+        let inner = &self.pegs[1..self.pegs.len() - 1];
+        inner.partition_point(|peg| peg.point.station <= station)
     }
 
     // The level at a station of the road.

@@ -4,6 +4,7 @@ ghost use Rattle.fitting.specs.Examined.{CurveRefused, GradeRefused};
 ghost use Rattle.fitting.specs.Rules.{GradePasses, PegKeeps, verdicts};
 
 use crate::grade_line::GradeLine;
+use rules::clause::ClauseNumber;
 use rules::code::RoadCode;
 use rules::length::Length;
 
@@ -15,25 +16,23 @@ pub(crate) struct Judge<'a, C> {
 
 impl<C: RoadCode> Judge<'_, C> {
     // Whether the code passes the grade from the i-th peg to the next, or the clause that refuses it.
-    pub(crate) fn check_grade(&self, i: usize) -> Result<(), u8>
+    pub(crate) fn check_grade(&self, i: usize) -> Result<(), ClauseNumber>
         requires { i + 1 < length self.now.line.pegs.now }
-        ensures { MatchResult result (λ _. GradePasses (verdicts C.RoadCode self.now.code.now) self.now.line.pegs.now i) (λ clause. GradeRefused (verdicts C.RoadCode self.now.code.now) self.now.line.pegs.now i clause) }
+        ensures { MatchResult result (λ _. GradePasses (verdicts C.RoadCode self.now.code.now) self.now.line.pegs.now i) (λ e. GradeRefused (verdicts C.RoadCode self.now.code.now) self.now.line.pegs.now i e.number) }
     {
-        let clause = self.code.grade(self.line.grade_at(i));
-        if clause == 0 { Ok(()) } else { Err(clause) }
+        self.code.grade(self.line.grade_at(i))
     }
 
     // Whether the code passes the i-th peg's curve, or the clause that refuses it; an end peg has none.
-    pub(crate) fn check_curve(&self, i: usize, at: Length) -> Result<(), u8>
+    pub(crate) fn check_curve(&self, i: usize, at: Length) -> Result<(), ClauseNumber>
         requires there { i < length self.now.line.pegs.now }
         requires ends { ((i ≡ 0 → at.metres ≡ 0)) × ((i + 1 ≡ length self.now.line.pegs.now → at.metres ≡ 0)) }
-        ensures { MatchResult result (λ _. PegKeeps (verdicts C.RoadCode self.now.code.now) self.now.line.pegs.now i at.metres) (λ clause. CurveRefused (verdicts C.RoadCode self.now.code.now) self.now.line.pegs.now at.metres i clause) }
+        ensures { MatchResult result (λ _. PegKeeps (verdicts C.RoadCode self.now.code.now) self.now.line.pegs.now i at.metres) (λ e. CurveRefused (verdicts C.RoadCode self.now.code.now) self.now.line.pegs.now at.metres i e.number) }
     {
         if self.line.is_end(i) {
             return Ok(());
         }
-        let clause = self.code.curve(self.line.turn_at(i), at);
-        if clause == 0 { Ok(()) } else { Err(clause) }
+        self.code.curve(self.line.turn_at(i), at)
     }
 
     // Whether the i-th peg may have the length.
