@@ -1,5 +1,5 @@
 // The rows of least totals, filled from the last peg back.
-ghost use Rattle.std.specs.Prelude.{◌≡◌, ℕ, ◌+◌, ◌*◌, ◌<◌, ◌≤◌, length, MatchBool, MatchOption};
+ghost use Rattle.std.specs.Prelude.{◌≡◌, ℕ, ◌+◌, ◌*◌, ◌<◌, ◌≤◌, length, MatchBool, MatchOption, slice_index};
 ghost use Rattle.fitting.specs.Rows.{LeastFrom, RowsFrom, none};
 ghost use Rattle.fitting.specs.Rules.{LastClosed, verdicts};
 ghost use Rattle.fitting.specs.Walked.{AllGrades, EndsFlat, LeastJoined, RowOpen, entry};
@@ -10,6 +10,15 @@ use crate::rules_met::Span;
 use rules::code::RoadCode;
 use rules::length::Length;
 
+// The row of peg t.
+pub(crate) fn row(store: &[u32], t: usize) -> &[u32]
+    requires { (t + 1) * 401 ≤ length store.now }
+    ensures count { length result.now ≡ 401 }
+    ensures entries { (k : ℕ) → k < 401 → slice_index result.now k ≡ entry store.now t k }
+{
+    &store[t * 401..(t + 1) * 401]
+}
+
 impl GradeLine<'_> {
     // The least entry of the row after peg t whose length may stand after `left` at peg t.
     fn least_after(&self, store: &[u32], t: usize, left: Length) -> u32
@@ -19,10 +28,12 @@ impl GradeLine<'_> {
         ensures { LeastJoined self.now.pegs.now self.now.fixed.now store.now t left.metres 401 result }
     {
         let mut low = u32::MAX;
-        for j in 0..401u32 {
-            let total = store[(t + 1) * 401 + j as usize];
-            if total < low && self.may_join(t, left, Length { metres: 5 * j }) {
-                low = total;
+        for (j, total) in row(store, t + 1).iter().enumerate() {
+            let right = Length {
+                metres: 5 * j as u32,
+            };
+            if *total < low && self.may_join(t, left, right) {
+                low = *total;
             }
         }
         low
@@ -85,10 +96,5 @@ fn is_closed(store: &[u32], t: usize) -> bool
     requires { (t + 1) * 401 ≤ length store.now }
     ensures { MatchBool result ((k : ℕ) → k < 401 → entry store.now t k ≡ none) (RowOpen store.now t) }
 {
-    for k in 0..401u32 {
-        if store[t * 401 + k as usize] < u32::MAX {
-            return false;
-        }
-    }
-    true
+    row(store, t).iter().all(|total| *total == u32::MAX)
 }

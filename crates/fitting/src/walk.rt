@@ -7,6 +7,7 @@ ghost use Rattle.fitting.specs.Walked.{AllGrades, EndsFlat, Leads, Picked, entry
 
 use crate::grade_line::GradeLine;
 use crate::judge::Judge;
+use crate::rows::row;
 use rules::code::RoadCode;
 use rules::length::Length;
 
@@ -19,10 +20,12 @@ impl GradeLine<'_> {
         requires reached { (goal < none) × (((j : ℕ) × (j < 401) × Leads self.now.pegs.now self.now.fixed.now store.now t left.metres goal j)) }
         ensures { Picked self.now.pegs.now self.now.fixed.now store.now t left.metres goal result }
     {
-        for k in 0..401u32 {
-            let total = store[(t + 1) * 401 + k as usize];
-            if total == goal && self.may_join(t, left, Length { metres: 5 * k }) {
-                return k;
+        for (k, total) in row(store, t + 1).iter().enumerate() {
+            let right = Length {
+                metres: 5 * k as u32,
+            };
+            if *total == goal && self.may_join(t, left, right) {
+                return k as u32;
             }
         }
         unreachable()
@@ -41,7 +44,7 @@ impl<C: RoadCode> Judge<'_, C> {
         // stays: each length follows from the one before it
         for t in 0..self.line.pegs.len() - 1 {
             let left = Length { metres: lengths[t] };
-            let goal = store[t * 401 + (left.metres / 5) as usize] - left.metres;
+            let goal = row(store, t)[(left.metres / 5) as usize] - left.metres;
             lengths[t + 1] = 5 * self.line.pick(store, t, left, goal);
         }
     }

@@ -1,8 +1,14 @@
-use Rattle.std.proofs.Common.{◌≡◌, ◌+◌, length, ◌∙◌, arith}
+use Rattle.std.proofs.Common.{◌≡◌, ℕ, ◌+◌, ◌-◌, ◌/◌, ◌<◌, ◌≤◌, length, slice_index, sym, ◌∙◌, subst, arith}
 use Rattle.std.proofs.lemmas.List.{get_or-set_same, length-set}
+use Rattle.fitting.specs.Rules.{len}
+use Rattle.fitting.specs.Walked.{Leads, Picked, entry}
 use Rattle.fitting.proofs.Entries.{ends_flat}
 use Rattle.fitting.proofs.Walks.{here_leads, here_reached, walked_best, walked_more, walked_none, walked_total}
 use Rattle.fitting.proofs.judge.Judge.walk.Goals as goal
+
+-- a length's place in its row
+step_in : (l : ℕ) → l ≤ 2000 → l / 5 < 401
+step_in l most = omega arith
 
 pub loop-t-init : goal.loop-t-init
 loop-t-init g c =
@@ -10,23 +16,39 @@ loop-t-init g c =
     walked_none _ _ _ _ c.requires.rows.0 c.requires.rows.1 _ (omega (arith, c.args.self.now.line.sound.least)) (length-set lengths 0 0 ∙ c.requires.room.1) (get_or-set_same lengths 0 0 0 (omega (arith, c.args.self.now.line.sound.least)))
 
 pub overflow_sub-goal : goal.overflow_sub-goal
-overflow_sub-goal g c = (here_leads _ _ _ _ c.requires.rows.0 c.requires.rows.1 _ _ (omega arith) c.loop-t.invariant).0
+overflow_sub-goal g c =
+    let l = len c.loop-t.lengths c.loop-t.t in
+    let here : slice_index c.row.result.now (l / 5) ≡ entry c.args.store.now c.loop-t.t (l / 5) = c.row.ensures.entries (l / 5) (step_in l (c.loop-t.invariant.pegs c.loop-t.t (omega arith)).most) in
+    subst (λ z. l ≤ z) (sym here) (here_leads _ _ _ _ c.requires.rows.0 c.requires.rows.1 _ _ (omega arith) c.loop-t.invariant).0
 
 pub pick-requires : goal.pick-requires
 pick-requires g c =
-    let keeps = c.loop-t.invariant.pegs c.loop-t.t (omega arith) in
+    let line = c.args.self.now.line in
+    let store = c.args.store.now in
+    let t = c.loop-t.t in
+    let l = len c.loop-t.lengths t in
+    let keeps = c.loop-t.invariant.pegs t (omega arith) in
+    let here : slice_index c.row.result.now (l / 5) ≡ entry store t (l / 5) = c.row.ensures.entries (l / 5) (step_in l keeps.most) in
     record {
       there = (omega arith, c.requires.room.0);
       flat = ends_flat _ _ _ _ _ (c.requires.rows.0 _ (omega arith) (omega arith));
       first = keeps.first;
       reached = (
         omega (arith, here_reached _ _ _ _ c.requires.rows.0 c.requires.rows.1 _ _ (omega arith) c.loop-t.invariant),
-        (here_leads _ _ _ _ c.requires.rows.0 c.requires.rows.1 _ _ (omega arith) c.loop-t.invariant).1,
+        subst (λ z. (j : ℕ) × (j < 401) × Leads line.pegs.now line.fixed.now store t l (z - l) j) (sym here)
+            (here_leads _ _ _ _ c.requires.rows.0 c.requires.rows.1 _ _ (omega arith) c.loop-t.invariant).1,
       );
     }
 
 pub loop-t-preserved : goal.loop-t-preserved
-loop-t-preserved g c = walked_more _ _ _ _ c.requires.rows.0 c.requires.rows.1 _ _ (omega arith) c.loop-t.invariant c.requires.grades _ c.pick.ensures
+loop-t-preserved g c =
+    let line = c.args.self.now.line in
+    let store = c.args.store.now in
+    let t = c.loop-t.t in
+    let l = len c.loop-t.lengths t in
+    let here : slice_index c.row.result.now (l / 5) ≡ entry store t (l / 5) = c.row.ensures.entries (l / 5) (step_in l (c.loop-t.invariant.pegs t (omega arith)).most) in
+    walked_more _ _ _ _ c.requires.rows.0 c.requires.rows.1 _ _ (omega arith) c.loop-t.invariant c.requires.grades _
+    (subst (λ z. Picked line.pegs.now line.fixed.now store t l (z - l) c.pick.result) here c.pick.ensures)
 
 pub returns : goal.returns
 returns g c =
