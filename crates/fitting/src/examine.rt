@@ -118,6 +118,7 @@ impl<C: RoadCode> Judge<'_, C> {
         if !lengths_for(lengths, self.line.pegs.len()) {
             return Err(Broken::Lengths);
         }
+        // stays: nothing is indexed here, the place itself is passed on
         for i in 0..self.line.pegs.len() {
             self.check_at(lengths, i)?;
         }

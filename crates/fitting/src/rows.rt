@@ -1,8 +1,8 @@
 // The rows of least totals, filled from the last peg back.
 ghost use Rattle.std.specs.Prelude.{◌≡◌, ℕ, ◌+◌, ◌*◌, ◌<◌, ◌≤◌, length, MatchBool, MatchOption, slice_index};
-ghost use Rattle.fitting.specs.Rows.{LeastFrom, RowsFrom, none};
+ghost use Rattle.fitting.specs.Rows.{LeastFrom, RowMeans, RowsFrom, entry, none};
 ghost use Rattle.fitting.specs.Rules.{LastClosed, verdicts};
-ghost use Rattle.fitting.specs.Walked.{AllGrades, EndsFlat, LeastJoined, RowOpen, entry};
+ghost use Rattle.fitting.specs.Walked.{AllGrades, EndsFlat, LeastJoined, RowOpen};
 
 use crate::grade_line::GradeLine;
 use crate::judge::Judge;
@@ -20,15 +20,16 @@ pub(crate) fn row(store: &[u32], t: usize) -> &[u32]
 }
 
 impl GradeLine<'_> {
-    // The least entry of the row after peg t whose length may stand after `left` at peg t.
-    fn least_after(&self, store: &[u32], t: usize, left: Length) -> u32
-        requires there { (t + 1 < length self.now.pegs.now) × (length self.now.pegs.now * 401 ≤ length store.now) }
-        requires flat { EndsFlat self.now.pegs.now store.now (t + 1) }
+    // The least entry of `next`, the row after peg t, whose length may stand after `left` at peg t.
+    // stays: a row is kept in words of the lent store, where u32::MAX stands for no total
+    fn least_after(&self, next: &[u32], t: usize, left: Length) -> u32
+        requires there { (t + 1 < length self.now.pegs.now) × (length next.now ≡ 401) }
+        requires flat { EndsFlat self.now.pegs.now (slice_index next.now) (t + 1) }
         requires first { t ≡ 0 → left.metres ≡ 0 }
-        ensures { LeastJoined self.now.pegs.now self.now.fixed.now store.now t left.metres 401 result }
+        ensures { LeastJoined self.now.pegs.now self.now.fixed.now (slice_index next.now) t left.metres 401 result }
     {
         let mut low = u32::MAX;
-        for (j, total) in row(store, t + 1).iter().enumerate() {
+        for (j, total) in next.iter().enumerate() {
             let right = Length {
                 metres: 5 * j as u32,
             };
@@ -41,11 +42,11 @@ impl GradeLine<'_> {
 }
 
 impl<C: RoadCode> Judge<'_, C> {
-    // The least total from peg t on where t has the length 5 k, by the row after.
-    fn entry_of(&self, store: &[u32], t: usize, k: u32) -> u32
-        requires there { (t < length self.now.line.pegs.now) × ((k < 401) × (length self.now.line.pegs.now * 401 ≤ length store.now)) }
+    // The least total from peg t on where t has the length 5 k; `after` begins with the row after, where there is one.
+    fn entry_of(&self, after: &[u32], t: usize, k: u32) -> u32
+        requires there { (t < length self.now.line.pegs.now) × (k < 401) }
         requires grades { AllGrades (verdicts C.RoadCode self.now.code.now) self.now.line.pegs.now }
-        requires after { RowsFrom (verdicts C.RoadCode self.now.code.now) self.now.line.pegs.now self.now.line.fixed.now store.now (t + 1) }
+        requires after { t + 1 < length self.now.line.pegs.now → (401 ≤ length after.now) × RowMeans (verdicts C.RoadCode self.now.code.now) self.now.line.pegs.now self.now.line.fixed.now (slice_index after.now) (t + 1) }
         ensures { LeastFrom (verdicts C.RoadCode self.now.code.now) self.now.line.pegs.now self.now.line.fixed.now t k result }
     {
         let own = Length { metres: 5 * k };
@@ -56,8 +57,21 @@ impl<C: RoadCode> Judge<'_, C> {
             return own.metres;
         }
         self.line
-            .least_after(store, t, own)
+            .least_after(&after[..401], t, own)
             .saturating_add(own.metres)
+    }
+
+    // Writes the row of peg t; `after` begins with the row after, where there is one.
+    fn write_row(&self, row: &mut [u32], after: &[u32], t: usize)
+        requires there { (t < length self.now.line.pegs.now) × (length row.old ≡ 401) }
+        requires grades { AllGrades (verdicts C.RoadCode self.now.code.now) self.now.line.pegs.now }
+        requires after { t + 1 < length self.now.line.pegs.now → (401 ≤ length after.now) × RowMeans (verdicts C.RoadCode self.now.code.now) self.now.line.pegs.now self.now.line.fixed.now (slice_index after.now) (t + 1) }
+        ensures written { RowMeans (verdicts C.RoadCode self.now.code.now) self.now.line.pegs.now self.now.line.fixed.now (slice_index row.new) t }
+        ensures room { length row.new ≡ 401 }
+    {
+        for (k, word) in row.iter_mut().enumerate() {
+            *word = self.entry_of(after, t, k as u32);
+        }
     }
 
     // Fills the row of peg t from the row after.
@@ -68,10 +82,8 @@ impl<C: RoadCode> Judge<'_, C> {
         ensures filled { RowsFrom (verdicts C.RoadCode self.now.code.now) self.now.line.pegs.now self.now.line.fixed.now store.new t }
         ensures room { length store.new ≡ length store.old }
     {
-        for k in 0..401u32 {
-            let least = self.entry_of(store, t, k);
-            store[t * 401 + k as usize] = least;
-        }
+        let (before, after) = store.split_at_mut((t + 1) * 401);
+        self.write_row(&mut before[t * 401..], after, t);
     }
 
     // Fills the rows from the last peg back, up to the first of them that is closed.
@@ -94,7 +106,7 @@ impl<C: RoadCode> Judge<'_, C> {
 // Whether no length of peg t has a total.
 fn is_closed(store: &[u32], t: usize) -> bool
     requires { (t + 1) * 401 ≤ length store.now }
-    ensures { MatchBool result ((k : ℕ) → k < 401 → entry store.now t k ≡ none) (RowOpen store.now t) }
+    ensures { MatchBool result ((k : ℕ) → k < 401 → entry store.now t k ≡ none) (RowOpen (entry store.now t)) }
 {
     row(store, t).iter().all(|total| *total == u32::MAX)
 }

@@ -1,9 +1,9 @@
 // The walk along the rows, which picks the lengths.
 ghost use Rattle.std.specs.Prelude.{◌≡◌, ℕ, ◌+◌, ◌*◌, ◌<◌, ◌≤◌, length, sum};
 ghost use Rattle.fitting.specs.Best.{Best};
-ghost use Rattle.fitting.specs.Rows.{RowsFrom, none};
+ghost use Rattle.fitting.specs.Rows.{RowsFrom, entry, none};
 ghost use Rattle.fitting.specs.Rules.{verdicts};
-ghost use Rattle.fitting.specs.Walked.{AllGrades, EndsFlat, Leads, Picked, entry};
+ghost use Rattle.fitting.specs.Walked.{AllGrades, EndsFlat, Leads, Picked};
 
 use crate::grade_line::GradeLine;
 use crate::judge::Judge;
@@ -15,10 +15,10 @@ impl GradeLine<'_> {
     // The first step whose length may stand after `left` at peg t and that has the total `goal`.
     fn pick(&self, store: &[u32], t: usize, left: Length, goal: u32) -> u32
         requires there { (t + 1 < length self.now.pegs.now) × (length self.now.pegs.now * 401 ≤ length store.now) }
-        requires flat { EndsFlat self.now.pegs.now store.now (t + 1) }
+        requires flat { EndsFlat self.now.pegs.now (entry store.now (t + 1)) (t + 1) }
         requires first { t ≡ 0 → left.metres ≡ 0 }
-        requires reached { (goal < none) × (((j : ℕ) × (j < 401) × Leads self.now.pegs.now self.now.fixed.now store.now t left.metres goal j)) }
-        ensures { Picked self.now.pegs.now self.now.fixed.now store.now t left.metres goal result }
+        requires reached { (goal < none) × (((j : ℕ) × (j < 401) × Leads self.now.pegs.now self.now.fixed.now (entry store.now (t + 1)) t left.metres goal j)) }
+        ensures { Picked self.now.pegs.now self.now.fixed.now (entry store.now (t + 1)) t left.metres goal result }
     {
         for (k, total) in row(store, t + 1).iter().enumerate() {
             let right = Length {

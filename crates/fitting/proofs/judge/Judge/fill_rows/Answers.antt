@@ -1,6 +1,7 @@
 use Rattle.std.proofs.Common.{◌-◌, sym, subst, inl, inr, arith}
 use Rattle.std.proofs.lemmas.Bool.{cases_eq}
 use Rattle.fitting.specs.Rules.{verdicts}
+use Rattle.fitting.specs.Rows.{entry}
 use Rattle.fitting.specs.Walked.{RowOpen}
 use Rattle.fitting.proofs.Entries.{first_open, row_closed, row_open}
 use Rattle.fitting.proofs.judge.Judge.fill_rows.Goals as goal
@@ -9,7 +10,7 @@ pub returns-then-is_closed : goal.returns-then-is_closed
 returns-then-is_closed g c = record {
   filled = record {
     there = omega arith;
-    closed = row_closed _ _ _ c.args.self.now.line.sound.most _ _ (omega arith) (c.fill_row.ensures.filled _ (omega arith) (omega arith)) c.if-is_closed.ensures;
+    closed = row_closed _ _ _ c.args.self.now.line.sound.most (entry c.fill_row.new.store (c.loop-t.t - 1)) _ (omega arith) (c.fill_row.ensures.filled _ (omega arith) (omega arith)) c.if-is_closed.ensures;
     open_after = λ u a b. c.loop-t.invariant.1 u (omega arith) b;
   };
   room = omega arith;
@@ -20,7 +21,7 @@ loop-t-preserved g c =
     let v = verdicts g.C.RoadCode c.args.self.now.code.now in (
       c.fill_row.ensures.filled,
       λ u a b closed. elim (cases_eq u (c.loop-t.t - 1)) [
-        | inl e ↦ row_open v c.args.self.now.line.pegs.now c.args.self.now.line.fixed.now c.fill_row.new.store u (c.fill_row.ensures.filled u a b) (subst (λ z. RowOpen c.fill_row.new.store z) (sym e) c.if-is_closed.ensures) closed
+        | inl e ↦ row_open v c.args.self.now.line.pegs.now c.args.self.now.line.fixed.now (entry c.fill_row.new.store u) u (c.fill_row.ensures.filled u a b) (subst (λ z. RowOpen (entry c.fill_row.new.store z)) (sym e) c.if-is_closed.ensures) closed
         | inr ne ↦ c.loop-t.invariant.1 u (omega arith) b closed
       ],
     )
@@ -29,7 +30,7 @@ pub returns : goal.returns
 returns g c = record {
   filled = (
     (λ u a b. c.loop-t.invariant.0 u (omega arith) b),
-    first_open _ _ _ c.args.self.now.line.sound.most _ (omega (arith, c.args.self.now.line.sound.least)) (c.loop-t.invariant.0 0 (omega arith) (omega (arith, c.args.self.now.line.sound.least))) (c.loop-t.invariant.1 0 (omega arith) (omega (arith, c.args.self.now.line.sound.least))),
+    first_open _ _ _ c.args.self.now.line.sound.most (entry c.loop-t.store 0) (omega (arith, c.args.self.now.line.sound.least)) (c.loop-t.invariant.0 0 (omega arith) (omega (arith, c.args.self.now.line.sound.least))) (c.loop-t.invariant.1 0 (omega arith) (omega (arith, c.args.self.now.line.sound.least))),
   );
   room = c.loop-t.auto.store;
 }

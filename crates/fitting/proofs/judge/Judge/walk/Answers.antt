@@ -1,7 +1,8 @@
 use Rattle.std.proofs.Common.{◌≡◌, ℕ, ◌+◌, ◌-◌, ◌/◌, ◌<◌, ◌≤◌, length, slice_index, sym, ◌∙◌, subst, arith}
 use Rattle.std.proofs.lemmas.List.{get_or-set_same, length-set}
 use Rattle.fitting.specs.Rules.{len}
-use Rattle.fitting.specs.Walked.{Leads, Picked, entry}
+use Rattle.fitting.specs.Walked.{Leads, Picked}
+use Rattle.fitting.specs.Rows.{entry}
 use Rattle.fitting.proofs.Entries.{ends_flat}
 use Rattle.fitting.proofs.Walks.{here_leads, here_reached, walked_best, walked_more, walked_none, walked_total}
 use Rattle.fitting.proofs.judge.Judge.walk.Goals as goal
@@ -31,11 +32,11 @@ pick-requires g c =
     let here : slice_index c.row.result.now (l / 5) ≡ entry store t (l / 5) = c.row.ensures.entries (l / 5) (step_in l keeps.most) in
     record {
       there = (omega arith, c.requires.room.0);
-      flat = ends_flat _ _ _ _ _ (c.requires.rows.0 _ (omega arith) (omega arith));
+      flat = ends_flat _ _ _ (entry store (t + 1)) _ (c.requires.rows.0 _ (omega arith) (omega arith));
       first = keeps.first;
       reached = (
         omega (arith, here_reached _ _ _ _ c.requires.rows.0 c.requires.rows.1 _ _ (omega arith) c.loop-t.invariant),
-        subst (λ z. (j : ℕ) × (j < 401) × Leads line.pegs.now line.fixed.now store t l (z - l) j) (sym here)
+        subst (λ z. (j : ℕ) × (j < 401) × Leads line.pegs.now line.fixed.now (entry store (t + 1)) t l (z - l) j) (sym here)
             (here_leads _ _ _ _ c.requires.rows.0 c.requires.rows.1 _ _ (omega arith) c.loop-t.invariant).1,
       );
     }
@@ -48,7 +49,7 @@ loop-t-preserved g c =
     let l = len c.loop-t.lengths t in
     let here : slice_index c.row.result.now (l / 5) ≡ entry store t (l / 5) = c.row.ensures.entries (l / 5) (step_in l (c.loop-t.invariant.pegs t (omega arith)).most) in
     walked_more _ _ _ _ c.requires.rows.0 c.requires.rows.1 _ _ (omega arith) c.loop-t.invariant c.requires.grades _
-    (subst (λ z. Picked line.pegs.now line.fixed.now store t l (z - l) c.pick.result) here c.pick.ensures)
+    (subst (λ z. Picked line.pegs.now line.fixed.now (entry store (t + 1)) t l (z - l) c.pick.result) here c.pick.ensures)
 
 pub returns : goal.returns
 returns g c =
