@@ -8,8 +8,8 @@ use Rattle.pegs.specs.declared.slot.Slot.{Slot}
 use Rattle.fitting.specs.declared.alignment.Standing.{Standing}
 use Rattle.fitting.specs.Best.{Best}
 use Rattle.fitting.specs.Rows.{RowsFrom, entry, none}
-use Rattle.fitting.specs.Rules.{Meets, PegKeeps, StretchKeeps, Verdicts, len}
-use Rattle.fitting.specs.Walked.{AllGrades, Leads, Picked, Walked}
+use Rattle.fitting.specs.Rules.{GradesPass, Meets, PegKeeps, StretchKeeps, Verdicts, len}
+use Rattle.fitting.specs.Walked.{Leads, Picked, Walked}
 use Rattle.fitting.proofs.Entries.{joins_keeps, no_more, same_stretch}
 use Rattle.fitting.proofs.FromPeg.{meets_later, sum_drop, whole_steps}
 
@@ -81,7 +81,7 @@ module _ (c : Verdicts) (ps : List Standing) (fixed : List (Slot FixedLevel)) (s
       pub here_leads : (len ls t ≤ entry store t (len ls t / 5)) × ((j : ℕ) × (j < 401) × Leads ps fixed (entry store (t + 1)) t (len ls t) (entry store t (len ls t / 5) - len ls t) j)
       here_leads = leads_on t (len ls t) b here_whole.0 here_whole.1 here_reached
 
-      module _ (grades : AllGrades c ps) (k : ℕ) (p : Picked ps fixed (entry store (t + 1)) t (len ls t) (entry store t (len ls t / 5) - len ls t) k) where
+      module _ (grades : GradesPass c ps) (k : ℕ) (p : Picked ps fixed (entry store (t + 1)) t (len ls t) (entry store t (len ls t / 5) - len ls t) k) where
         old : (i : ℕ) → i < t + 1 → len (set ls (t + 1) (5 * k)) i ≡ len ls i
         old i d = get_or-set_other ls (t + 1) i (5 * k) 0 (omega arith)
 

@@ -50,6 +50,10 @@ Apart ps i l r = l + r ≤ 2 * gap ps i
 abbrev pub GradePasses : Verdicts → List Standing → ℕ → Type 0
 GradePasses c ps i = c.grade (climb ps i) (gap ps i) ≡ 0
 
+-- the code passes every grade
+abbrev pub GradesPass : Verdicts → List Standing → Type 0
+GradesPass c ps = (i : ℕ) → i + 1 < length ps → GradePasses c ps i
+
 -- the i-th stretch keeps its rules with the lengths l and r of its two pegs
 pub record StretchKeeps (c : Verdicts) (ps : List Standing) (fixed : List (Slot FixedLevel)) (i l r : ℕ) : Type 0 where
   pub grade : GradePasses c ps i

@@ -4,15 +4,11 @@ use Rattle.pegs.specs.declared.peg.FixedLevel.{FixedLevel}
 use Rattle.pegs.specs.declared.slot.Slot.{Slot}
 use Rattle.fitting.specs.declared.alignment.Standing.{Standing}
 use Rattle.fitting.specs.Rows.{entry, none}
-use Rattle.fitting.specs.Rules.{Apart, FixedKept, GradePasses, Meets, PegKeeps, StretchKeeps, Verdicts, len}
+use Rattle.fitting.specs.Rules.{Apart, FixedKept, Meets, PegKeeps, StretchKeeps, Verdicts, len}
 
 -- the lengths l and r of its two pegs may stand on the i-th stretch
 abbrev pub Joins : List Standing → List (Slot FixedLevel) → (i l r : ℕ) → Type 0
 Joins ps fixed i l r = Apart ps i l r × ((n : ℕ) → FixedKept ps fixed i l r n)
-
--- the code passes every grade
-abbrev pub AllGrades : Verdicts → List Standing → Type 0
-AllGrades c ps = (i : ℕ) → i + 1 < length ps → GradePasses c ps i
 
 -- in the row of the last peg only the length 0 has a total
 abbrev pub EndsFlat : List Standing → (row : ℕ → ℕ) → ℕ → Type 0

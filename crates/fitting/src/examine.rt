@@ -12,6 +12,7 @@ use rules::refusal::Refusal;
 use std::fmt;
 
 // What is broken, and where: a peg and a fixed level are told by number, a stretch by its first peg.
+// stays: a clause is told by its number, and whoever makes a Broken may give any
 #[derive(Clone, Copy)]
 pub enum Broken {
     Lengths,

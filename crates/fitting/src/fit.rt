@@ -1,8 +1,8 @@
 // The fitting of lengths: the least that meet every rule, or why there are none.
 ghost use Rattle.std.specs.Prelude.{◌≡◌, ℕ, ◌+◌, ◌*◌, ◌<◌, ◌≤◌, length, take, sum, MatchResult};
 ghost use Rattle.fitting.specs.Best.{Best};
-ghost use Rattle.fitting.specs.Fits.{GradeTold, GradesPass, IsNoFit, StoreLeft, TurnTold, TurnsPass, no_fit_number};
-ghost use Rattle.fitting.specs.Rules.{verdicts};
+ghost use Rattle.fitting.specs.Fits.{GradeTold, IsNoFit, StoreLeft, TurnTold, TurnsPass, no_fit_number};
+ghost use Rattle.fitting.specs.Rules.{GradesPass, verdicts};
 
 use crate::alignment::Alignment;
 use crate::examine::Broken;
@@ -13,6 +13,7 @@ use rules::shortest::shortest;
 use std::fmt;
 
 // Why there is no fit; a stretch is told by its first peg.
+// stays: a clause is told by its number, and whoever makes a NoFit may give any
 #[derive(Clone, Copy)]
 pub enum NoFit {
     StoreTooSmall,
@@ -41,10 +42,7 @@ impl fmt::Display for NoFit {
             NoFit::StoreTooSmall => f.write_str(
                 "the working store has fewer than 401 words for each peg in force",
             ),
-            NoFit::Grade { peg, clause } => write!(
-                f,
-                "the code refuses the grade from peg {peg} to the next by its clause {clause}"
-            ),
+            NoFit::Grade { peg, clause } => write!(f, "{}", Broken::Grade { peg, clause }),
             NoFit::Turn { peg, clause } => write!(
                 f,
                 "the code refuses the turn at peg {peg} at every length, at 2000 m by its clause {clause}"

@@ -9,6 +9,7 @@ use crate::grade_line::GradeLine;
 use crate::level::Course;
 
 // A length in metres for each peg in force, in their order, and the total.
+// stays: room for the lengths of forty pegs, since there is no heap and the whole is copied
 #[derive(Clone, Copy)]
 pub struct Fitted {
     pub alignment: Alignment,

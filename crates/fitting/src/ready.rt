@@ -71,6 +71,7 @@ fn add(number: u32, held: Option<Peg>, pegs: &mut [Standing], at: usize) -> usiz
 }
 
 // Writes the pegs that slots hold at the front of `pegs`, in the order of their numbers, and tells how many.
+// stays: they are gathered in the room of an alignment, since there is no heap
 fn collect(slots: &[Slot<Peg>], pegs: &mut [Standing]) -> usize
     requires { (length slots.now ≡ 40) × (length pegs.old ≡ 40) }
     ensures line { take result pegs.new ≡ in_force slots.now }

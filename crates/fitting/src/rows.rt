@@ -1,12 +1,11 @@
 // The rows of least totals, filled from the last peg back.
 ghost use Rattle.std.specs.Prelude.{◌≡◌, ℕ, ◌+◌, ◌*◌, ◌<◌, ◌≤◌, length, MatchBool, MatchOption, slice_index};
 ghost use Rattle.fitting.specs.Rows.{LeastFrom, RowMeans, RowsFrom, entry, none};
-ghost use Rattle.fitting.specs.Rules.{LastClosed, verdicts};
-ghost use Rattle.fitting.specs.Walked.{AllGrades, EndsFlat, LeastJoined, RowOpen};
+ghost use Rattle.fitting.specs.Rules.{GradesPass, LastClosed, verdicts};
+ghost use Rattle.fitting.specs.Walked.{EndsFlat, LeastJoined, RowOpen};
 
 use crate::grade_line::GradeLine;
 use crate::judge::Judge;
-use crate::rules_met::Span;
 use rules::code::RoadCode;
 use rules::length::Length;
 
@@ -21,7 +20,7 @@ pub(crate) fn row(store: &[u32], t: usize) -> &[u32]
 
 impl GradeLine<'_> {
     // The least entry of `next`, the row after peg t, whose length may stand after `left` at peg t.
-    // stays: a row is kept in words of the lent store, where u32::MAX stands for no total
+    // stays: it is told as the words of the lent store are, where u32::MAX stands for no total
     fn least_after(&self, next: &[u32], t: usize, left: Length) -> u32
         requires there { (t + 1 < length self.now.pegs.now) × (length next.now ≡ 401) }
         requires flat { EndsFlat self.now.pegs.now (slice_index next.now) (t + 1) }
@@ -43,9 +42,10 @@ impl GradeLine<'_> {
 
 impl<C: RoadCode> Judge<'_, C> {
     // The least total from peg t on where t has the length 5 k; `after` begins with the row after, where there is one.
+    // stays: it is a word of the lent store, where u32::MAX stands for no total
     fn entry_of(&self, after: &[u32], t: usize, k: u32) -> u32
         requires there { (t < length self.now.line.pegs.now) × (k < 401) }
-        requires grades { AllGrades (verdicts C.RoadCode self.now.code.now) self.now.line.pegs.now }
+        requires grades { GradesPass (verdicts C.RoadCode self.now.code.now) self.now.line.pegs.now }
         requires after { t + 1 < length self.now.line.pegs.now → (401 ≤ length after.now) × RowMeans (verdicts C.RoadCode self.now.code.now) self.now.line.pegs.now self.now.line.fixed.now (slice_index after.now) (t + 1) }
         ensures { LeastFrom (verdicts C.RoadCode self.now.code.now) self.now.line.pegs.now self.now.line.fixed.now t k result }
     {
@@ -64,7 +64,7 @@ impl<C: RoadCode> Judge<'_, C> {
     // Writes the row of peg t; `after` begins with the row after, where there is one.
     fn write_row(&self, row: &mut [u32], after: &[u32], t: usize)
         requires there { (t < length self.now.line.pegs.now) × (length row.old ≡ 401) }
-        requires grades { AllGrades (verdicts C.RoadCode self.now.code.now) self.now.line.pegs.now }
+        requires grades { GradesPass (verdicts C.RoadCode self.now.code.now) self.now.line.pegs.now }
         requires after { t + 1 < length self.now.line.pegs.now → (401 ≤ length after.now) × RowMeans (verdicts C.RoadCode self.now.code.now) self.now.line.pegs.now self.now.line.fixed.now (slice_index after.now) (t + 1) }
         ensures written { RowMeans (verdicts C.RoadCode self.now.code.now) self.now.line.pegs.now self.now.line.fixed.now (slice_index row.new) t }
         ensures room { length row.new ≡ 401 }
@@ -77,7 +77,7 @@ impl<C: RoadCode> Judge<'_, C> {
     // Fills the row of peg t from the row after.
     fn fill_row(&self, store: &mut [u32], t: usize)
         requires there { (t < length self.now.line.pegs.now) × (length self.now.line.pegs.now * 401 ≤ length store.old) }
-        requires grades { AllGrades (verdicts C.RoadCode self.now.code.now) self.now.line.pegs.now }
+        requires grades { GradesPass (verdicts C.RoadCode self.now.code.now) self.now.line.pegs.now }
         requires after { RowsFrom (verdicts C.RoadCode self.now.code.now) self.now.line.pegs.now self.now.line.fixed.now store.old (t + 1) }
         ensures filled { RowsFrom (verdicts C.RoadCode self.now.code.now) self.now.line.pegs.now self.now.line.fixed.now store.new t }
         ensures room { length store.new ≡ length store.old }
@@ -89,10 +89,11 @@ impl<C: RoadCode> Judge<'_, C> {
     // Fills the rows from the last peg back, up to the first of them that is closed.
     pub(crate) fn fill_rows(&self, store: &mut [u32]) -> Option<usize>
         requires room { length self.now.line.pegs.now * 401 ≤ length store.old }
-        requires grades { AllGrades (verdicts C.RoadCode self.now.code.now) self.now.line.pegs.now }
+        requires grades { GradesPass (verdicts C.RoadCode self.now.code.now) self.now.line.pegs.now }
         ensures filled { MatchOption result (RowsFrom (verdicts C.RoadCode self.now.code.now) self.now.line.pegs.now self.now.line.fixed.now store.new 0 × (entry store.new 0 0 < none)) (λ t. LastClosed (verdicts C.RoadCode self.now.code.now) self.now.line.pegs.now self.now.line.fixed.now t) }
         ensures room { length store.new ≡ length store.old }
     {
+        // stays: a row is filled from the row after it, so the rows are not lent one by one
         for t in (0..self.line.pegs.len()).rev() {
             self.fill_row(store, t);
             if is_closed(store, t) {

@@ -2,8 +2,8 @@
 ghost use Rattle.std.specs.Prelude.{◌≡◌, ℕ, ◌+◌, ◌*◌, ◌<◌, ◌≤◌, length, sum};
 ghost use Rattle.fitting.specs.Best.{Best};
 ghost use Rattle.fitting.specs.Rows.{RowsFrom, entry, none};
-ghost use Rattle.fitting.specs.Rules.{verdicts};
-ghost use Rattle.fitting.specs.Walked.{AllGrades, EndsFlat, Leads, Picked};
+ghost use Rattle.fitting.specs.Rules.{GradesPass, verdicts};
+ghost use Rattle.fitting.specs.Walked.{EndsFlat, Leads, Picked};
 
 use crate::grade_line::GradeLine;
 use crate::judge::Judge;
@@ -36,7 +36,7 @@ impl<C: RoadCode> Judge<'_, C> {
     // Writes the best lengths, which the rows lead to.
     pub(crate) fn walk(&self, store: &[u32], lengths: &mut [u32])
         requires room { (length self.now.line.pegs.now * 401 ≤ length store.now) × (length lengths.old ≡ length self.now.line.pegs.now) }
-        requires grades { AllGrades (verdicts C.RoadCode self.now.code.now) self.now.line.pegs.now }
+        requires grades { GradesPass (verdicts C.RoadCode self.now.code.now) self.now.line.pegs.now }
         requires rows { (RowsFrom (verdicts C.RoadCode self.now.code.now) self.now.line.pegs.now self.now.line.fixed.now store.now 0) × (entry store.now 0 0 < none) }
         ensures { Best (verdicts C.RoadCode self.now.code.now) self.now.line.pegs.now self.now.line.fixed.now lengths.new × (entry store.now 0 0 ≡ sum lengths.new) }
     {
