@@ -89,9 +89,11 @@ impl<C: RoadCode> Judge<'_, C> {
 
     // Writes the best lengths and tells their total, or why there are none.
     fn find(&self, store: &mut [u32], lengths: &mut [u32]) -> Result<u32, NoFit>
-        requires room { (401 * length self.now.line.pegs.now ≤ length store.old) × (length lengths.old ≡ length self.now.line.pegs.now) }
+        requires room { 401 * length self.now.line.pegs.now ≤ length store.old }
+        requires count { length lengths.old ≡ length self.now.line.pegs.now }
         ensures found { MatchResult result (λ total. Best (verdicts C.RoadCode self.now.code.now) self.now.line.pegs.now self.now.line.fixed.now lengths.new × (total ≡ sum lengths.new)) (λ e. IsNoFit (verdicts C.RoadCode self.now.code.now) self.now.line.pegs.now self.now.line.fixed.now (length store.old) e) }
-        ensures room { (length store.new ≡ length store.old) × (length lengths.new ≡ length lengths.old) }
+        ensures room { length store.new ≡ length store.old }
+        ensures count { length lengths.new ≡ length lengths.old }
     {
         self.check_grades()?;
         self.check_turns()?;

@@ -25,7 +25,8 @@ impl GradeLine<'_> {
     // The stretch that a station belongs to: the last that starts at or before it.
     fn stretch_of(&self, station: u32) -> usize
         requires { OnRoad self.now.pegs.now station }
-        ensures { (result + 1 < length self.now.pegs.now) × (OnStretch self.now.pegs.now result station) }
+        ensures there { result + 1 < length self.now.pegs.now }
+        ensures on { OnStretch self.now.pegs.now result station }
     {
         let inner = &self.pegs[1..self.pegs.len() - 1];
         inner.partition_point(|peg| peg.point.station <= station)
@@ -34,7 +35,10 @@ impl GradeLine<'_> {
     // The level at a station of the road.
     fn level_on(&self, lengths: &[u32], station: u32) -> u32
         requires road { OnRoad self.now.pegs.now station }
-        requires laid { (length lengths.now ≡ length self.now.pegs.now) × ((LaidApart self.now.pegs.now lengths.now) × ((len lengths.now 0 ≡ 0) × (len lengths.now (length self.now.pegs.now - 1) ≡ 0))) }
+        requires count { length lengths.now ≡ length self.now.pegs.now }
+        requires apart { LaidApart self.now.pegs.now lengths.now }
+        requires first { len lengths.now 0 ≡ 0 }
+        requires last { len lengths.now (length self.now.pegs.now - 1) ≡ 0 }
         ensures { LevelIs self.now.pegs.now lengths.now station result }
     {
         let i = self.stretch_of(station);

@@ -31,7 +31,8 @@ impl GradeLine<'_> {
     // The grade from the i-th peg to the next.
     pub(crate) fn grade_at(&self, i: usize) -> Grade
         requires { i + 1 < length self.now.pegs.now }
-        ensures { (result.rise ≡ climb self.now.pegs.now i) × (result.run ≡ gap self.now.pegs.now i) }
+        ensures rise { result.rise ≡ climb self.now.pegs.now i }
+        ensures run { result.run ≡ gap self.now.pegs.now i }
     {
         let from = self.pegs[i].point;
         let to = self.pegs[i + 1].point;
@@ -43,7 +44,8 @@ impl GradeLine<'_> {
 
     // The turn at the i-th peg.
     pub(crate) fn turn_at(&self, i: usize) -> Turn
-        requires { (0 < i) × (i + 1 < length self.now.pegs.now) }
+        requires turns { 0 < i }
+        requires next { i + 1 < length self.now.pegs.now }
         ensures { result.bend ≡ turn self.now.pegs.now i }
     {
         let into = self.grade_at(i - 1);
@@ -63,21 +65,12 @@ impl GradeLine<'_> {
         requires { i + 1 < length self.now.pegs.now }
         ensures { result ≡ stretch self.now.pegs.now i }
     {
-        let before = if i == 0 {
-            self.pegs[0]
-        } else {
-            self.pegs[i - 1]
-        };
-        let after = if i + 2 < self.pegs.len() {
-            self.pegs[i + 2]
-        } else {
-            self.pegs[i + 1]
-        };
+        let to = self.pegs[i + 1].point;
         Stretch {
-            before: before.point,
+            before: self.pegs[i.saturating_sub(1)].point,
             from: self.pegs[i].point,
-            to: self.pegs[i + 1].point,
-            after: after.point,
+            to,
+            after: self.pegs.get(i + 2).map_or(to, |peg| peg.point),
         }
     }
 }

@@ -26,7 +26,8 @@ impl<C: RoadCode> Judge<'_, C> {
     // Whether the code passes the i-th peg's curve, or the clause that refuses it; an end peg has none.
     pub(crate) fn check_curve(&self, i: usize, at: Length) -> Result<(), ClauseNumber>
         requires there { i < length self.now.line.pegs.now }
-        requires ends { ((i ≡ 0 → at.metres ≡ 0)) × ((i + 1 ≡ length self.now.line.pegs.now → at.metres ≡ 0)) }
+        requires first { i ≡ 0 → at.metres ≡ 0 }
+        requires last { i + 1 ≡ length self.now.line.pegs.now → at.metres ≡ 0 }
         ensures { MatchResult result (λ _. PegKeeps (verdicts C.RoadCode self.now.code.now) self.now.line.pegs.now i at.metres) (λ e. CurveRefused (verdicts C.RoadCode self.now.code.now) self.now.line.pegs.now at.metres i e.number) }
     {
         if self.line.is_end(i) {

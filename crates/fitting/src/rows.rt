@@ -22,7 +22,8 @@ impl GradeLine<'_> {
     // The least entry of `next`, the row after peg t, whose length may stand after `left` at peg t.
     // stays: it is told as the words of the lent store are, where u32::MAX stands for no total
     fn least_after(&self, next: &[u32], t: usize, left: Length) -> u32
-        requires there { (t + 1 < length self.now.pegs.now) × (length next.now ≡ 401) }
+        requires next { t + 1 < length self.now.pegs.now }
+        requires count { length next.now ≡ 401 }
         requires flat { EndsFlat self.now.pegs.now (slice_index next.now) (t + 1) }
         requires first { t ≡ 0 → left.metres ≡ 0 }
         ensures { LeastJoined self.now.pegs.now self.now.fixed.now (slice_index next.now) t left.metres 401 result }
@@ -44,7 +45,8 @@ impl<C: RoadCode> Judge<'_, C> {
     // The least total from peg t on where t has the length 5 k; `after` begins with the row after, where there is one.
     // stays: it is a word of the lent store, where u32::MAX stands for no total
     fn entry_of(&self, after: &[u32], t: usize, k: u32) -> u32
-        requires there { (t < length self.now.line.pegs.now) × (k < 401) }
+        requires there { t < length self.now.line.pegs.now }
+        requires step { k < 401 }
         requires grades { GradesPass (verdicts C.RoadCode self.now.code.now) self.now.line.pegs.now }
         requires after { t + 1 < length self.now.line.pegs.now → (401 ≤ length after.now) × RowMeans (verdicts C.RoadCode self.now.code.now) self.now.line.pegs.now self.now.line.fixed.now (slice_index after.now) (t + 1) }
         ensures { LeastFrom (verdicts C.RoadCode self.now.code.now) self.now.line.pegs.now self.now.line.fixed.now t k result }
@@ -63,11 +65,12 @@ impl<C: RoadCode> Judge<'_, C> {
 
     // Writes the row of peg t; `after` begins with the row after, where there is one.
     fn write_row(&self, row: &mut [u32], after: &[u32], t: usize)
-        requires there { (t < length self.now.line.pegs.now) × (length row.old ≡ 401) }
+        requires there { t < length self.now.line.pegs.now }
+        requires count { length row.old ≡ 401 }
         requires grades { GradesPass (verdicts C.RoadCode self.now.code.now) self.now.line.pegs.now }
         requires after { t + 1 < length self.now.line.pegs.now → (401 ≤ length after.now) × RowMeans (verdicts C.RoadCode self.now.code.now) self.now.line.pegs.now self.now.line.fixed.now (slice_index after.now) (t + 1) }
         ensures written { RowMeans (verdicts C.RoadCode self.now.code.now) self.now.line.pegs.now self.now.line.fixed.now (slice_index row.new) t }
-        ensures room { length row.new ≡ 401 }
+        ensures count { length row.new ≡ 401 }
     {
         for (k, word) in row.iter_mut().enumerate() {
             *word = self.entry_of(after, t, k as u32);
@@ -76,7 +79,8 @@ impl<C: RoadCode> Judge<'_, C> {
 
     // Fills the row of peg t from the row after.
     fn fill_row(&self, store: &mut [u32], t: usize)
-        requires there { (t < length self.now.line.pegs.now) × (length self.now.line.pegs.now * 401 ≤ length store.old) }
+        requires there { t < length self.now.line.pegs.now }
+        requires room { length self.now.line.pegs.now * 401 ≤ length store.old }
         requires grades { GradesPass (verdicts C.RoadCode self.now.code.now) self.now.line.pegs.now }
         requires after { RowsFrom (verdicts C.RoadCode self.now.code.now) self.now.line.pegs.now self.now.line.fixed.now store.old (t + 1) }
         ensures filled { RowsFrom (verdicts C.RoadCode self.now.code.now) self.now.line.pegs.now self.now.line.fixed.now store.new t }

@@ -78,7 +78,8 @@ impl GradeLine<'_> {
     // Whether the lengths of its two pegs may stand on the i-th stretch.
     pub(crate) fn may_join(&self, i: usize, left: Length, right: Length) -> bool
         requires there { i + 1 < length self.now.pegs.now }
-        requires ends { ((i ≡ 0 → left.metres ≡ 0)) × ((i + 2 ≡ length self.now.pegs.now → right.metres ≡ 0)) }
+        requires first { i ≡ 0 → left.metres ≡ 0 }
+        requires last { i + 2 ≡ length self.now.pegs.now → right.metres ≡ 0 }
         ensures { Decides result (Joins self.now.pegs.now self.now.fixed.now i left.metres right.metres) }
     {
         let span = Span {

@@ -14,10 +14,12 @@ use rules::length::Length;
 impl GradeLine<'_> {
     // The first step whose length may stand after `left` at peg t and that has the total `goal`.
     fn pick(&self, store: &[u32], t: usize, left: Length, goal: u32) -> u32
-        requires there { (t + 1 < length self.now.pegs.now) × (length self.now.pegs.now * 401 ≤ length store.now) }
+        requires next { t + 1 < length self.now.pegs.now }
+        requires room { length self.now.pegs.now * 401 ≤ length store.now }
         requires flat { EndsFlat self.now.pegs.now (entry store.now (t + 1)) (t + 1) }
         requires first { t ≡ 0 → left.metres ≡ 0 }
-        requires reached { (goal < none) × (((j : ℕ) × (j < 401) × Leads self.now.pegs.now self.now.fixed.now (entry store.now (t + 1)) t left.metres goal j)) }
+        requires total { goal < none }
+        requires reached { (j : ℕ) × (j < 401) × Leads self.now.pegs.now self.now.fixed.now (entry store.now (t + 1)) t left.metres goal j }
         ensures { Picked self.now.pegs.now self.now.fixed.now (entry store.now (t + 1)) t left.metres goal result }
     {
         for (k, total) in row(store, t + 1).iter().enumerate() {
@@ -35,10 +37,13 @@ impl GradeLine<'_> {
 impl<C: RoadCode> Judge<'_, C> {
     // Writes the best lengths, which the rows lead to.
     pub(crate) fn walk(&self, store: &[u32], lengths: &mut [u32])
-        requires room { (length self.now.line.pegs.now * 401 ≤ length store.now) × (length lengths.old ≡ length self.now.line.pegs.now) }
+        requires room { length self.now.line.pegs.now * 401 ≤ length store.now }
+        requires count { length lengths.old ≡ length self.now.line.pegs.now }
         requires grades { GradesPass (verdicts C.RoadCode self.now.code.now) self.now.line.pegs.now }
-        requires rows { (RowsFrom (verdicts C.RoadCode self.now.code.now) self.now.line.pegs.now self.now.line.fixed.now store.now 0) × (entry store.now 0 0 < none) }
-        ensures { Best (verdicts C.RoadCode self.now.code.now) self.now.line.pegs.now self.now.line.fixed.now lengths.new × (entry store.now 0 0 ≡ sum lengths.new) }
+        requires rows { RowsFrom (verdicts C.RoadCode self.now.code.now) self.now.line.pegs.now self.now.line.fixed.now store.now 0 }
+        requires reached { entry store.now 0 0 < none }
+        ensures best { Best (verdicts C.RoadCode self.now.code.now) self.now.line.pegs.now self.now.line.fixed.now lengths.new }
+        ensures total { entry store.now 0 0 ≡ sum lengths.new }
     {
         lengths[0] = 0;
         // stays: each length follows from the one before it

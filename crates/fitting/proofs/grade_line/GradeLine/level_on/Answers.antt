@@ -13,14 +13,13 @@ invariant_of-nearest_level c =
     let ls = c.args.lengths.now in
     let i = c.stretch_of-i.result in
     let so = c.args.self.now.sound in
-    let low = c.stretch_of-i.ensures.0 in
-    let laid = c.requires.laid.1 in
-    let apart = laid.0 i low in
+    let low = c.stretch_of-i.ensures.there in
+    let apart = c.requires.apart i low in
     let e = sym c.stretch_at.ensures in
     record {
       sound = subst Sound e (stretch_sound ps i so.rising so.figures low);
       lengths = subst (λ t. Lengths t (len ls i) (len ls (i + 1))) e
-          (stretch_lengths ps i (len ls i) (len ls (i + 1)) so.rising low apart.0 apart.1 apart.2 (λ z. subst (λ k. len ls k ≡ 0) (sym z) laid.1.0) (λ z. subst (λ k. len ls k ≡ 0) (one_less i (length ps) z) laid.1.1));
+          (stretch_lengths ps i (len ls i) (len ls (i + 1)) so.rising low apart.0 apart.1 apart.2 (λ z. subst (λ k. len ls k ≡ 0) (sym z) c.requires.first) (λ z. subst (λ k. len ls k ≡ 0) (one_less i (length ps) z) c.requires.last));
     }
 
 pub nearest_level-requires : goal.nearest_level-requires
@@ -28,10 +27,9 @@ nearest_level-requires c =
     let ps = c.args.self.now.pegs.now in
     let ls = c.args.lengths.now in
     let i = c.stretch_of-i.result in
-    let low = c.stretch_of-i.ensures.0 in
-    let laid = c.requires.laid.1 in
+    let low = c.stretch_of-i.ensures.there in
     let e = sym c.stretch_at.ensures in
     record {
-      room = subst (λ t. Room t (len ls i) (len ls (i + 1))) e (stretch_room ps ls i c.args.self.now.sound.rising low laid.1.0 laid.1.1 (λ j l. (laid.0 j l).2));
-      inside = subst (λ t. Inside t c.args.station) e (stretch_inside ps i c.args.station low c.requires.road c.stretch_of-i.ensures.1);
+      room = subst (λ t. Room t (len ls i) (len ls (i + 1))) e (stretch_room ps ls i c.args.self.now.sound.rising low c.requires.first c.requires.last (λ j l. (c.requires.apart j l).2));
+      inside = subst (λ t. Inside t c.args.station) e (stretch_inside ps i c.args.station low c.requires.road c.stretch_of-i.ensures.on);
     }

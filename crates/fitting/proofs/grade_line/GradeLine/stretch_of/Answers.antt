@@ -27,13 +27,11 @@ rises ps rising =
     IsNonDecreasingBy-from_all_adjacent (λ s. s.point.station) ps
     (λ k d low. rw (get_or_default ps k d nobody (omega arith), get_or_default ps (k + 1) d nobody low) (omega (arith, rising k low)))
 
-last_before : (ps : List Standing) (s i : ℕ) → 2 ≤ length ps → OnRoad ps s → i ≤ length (inner ps)
+last_before : (ps : List Standing) (s i : ℕ) → OnRoad ps s → i ≤ length (inner ps)
     → IsPartitionPoint (λ y. leb y.point.station s ≡ true) (λ y. leb y.point.station s ≡ false) (inner ps) i
-    → (i + 1 < length ps) × OnStretch ps i s
-last_before ps s i many road most found = (
-  omega (arith, inner-length ps),
-  (before i most found.0, λ more. leb-false _ _ (rw (inner_at ps i more) at (found.1 i nobody (omega arith) (omega (arith, inner-length ps))))),
-)
+    → OnStretch ps i s
+last_before ps s i road most found =
+    (before i most found.0, λ more. leb-false _ _ (rw (inner_at ps i more) at (found.1 i nobody (omega arith) (omega (arith, inner-length ps)))))
   where
     before : (k : ℕ) → k ≤ length (inner ps) → AllWithin (λ y. leb y.point.station s ≡ true) (inner ps) 0 k → station ps k ≤ s
     before zero low all = road.0
@@ -43,7 +41,10 @@ pub returns : goal.returns
 returns c =
     let ps = c.args.self.now.pegs.now in
     let s = c.args.station in
-    last_before ps s c.partition_point.result c.args.self.now.sound.least c.requires c.partition_point.ensures.bound
-    (IsPartitionPoint-from_clause (λ y. leb y.point.station s) (inner ps) c.partition_point.result c.partition_point.ensures.partitioned
-    (IsPartitionedBy-leb (λ y. y.point.station) (inner ps) s (IsNonDecreasingBy-take (λ y. y.point.station) _ _ (IsNonDecreasingBy-drop (λ y. y.point.station) 1 ps (rises ps c.args.self.now.sound.rising))))
-    (λ a r f k. search (rules, tests)))
+    record {
+      there = omega (arith, inner-length ps, c.args.self.now.sound.least);
+      on = last_before ps s c.partition_point.result c.requires c.partition_point.ensures.bound
+          (IsPartitionPoint-from_clause (λ y. leb y.point.station s) (inner ps) c.partition_point.result c.partition_point.ensures.partitioned
+          (IsPartitionedBy-leb (λ y. y.point.station) (inner ps) s (IsNonDecreasingBy-take (λ y. y.point.station) _ _ (IsNonDecreasingBy-drop (λ y. y.point.station) 1 ps (rises ps c.args.self.now.sound.rising))))
+          (λ a r f k. search (rules, tests)));
+    }

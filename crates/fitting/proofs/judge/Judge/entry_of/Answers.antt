@@ -15,8 +15,8 @@ next_means c ps fixed after u means k low = subst (LeastFrom c ps fixed u k) (sy
 pub slice_bounds-least_after-end : goal.slice_bounds-least_after-end
 slice_bounds-least_after-end g c = sym (length-take-le 401 c.args.after.now (c.requires.after (omega arith)).0)
 
-pub least_after-requires-clause-there : goal.least_after-requires-clause-there
-least_after-requires-clause-there g c = (omega arith, length-take-le 401 c.args.after.now (c.requires.after (omega arith)).0)
+pub least_after-requires-clause-count : goal.least_after-requires-clause-count
+least_after-requires-clause-count g c = length-take-le 401 c.args.after.now (c.requires.after (omega arith)).0
 
 pub least_after-requires-clause-flat : goal.least_after-requires-clause-flat
 least_after-requires-clause-flat g c = ends_flat _ _ _ (slice_index (take 401 c.args.after.now)) _ (next_means _ _ _ _ _ (c.requires.after (omega arith)).1)

@@ -54,8 +54,8 @@ returns-clause-filled g c u a b k low =
     let store = c.args.store.now in
     let split = c.split_at_mut-before.ensures in
     elim (cases_eq u t) [
-      | inl e ↦ subst (λ z. LeastFrom v line.pegs.now line.fixed.now z k (entry (written front row store t split.front_len c.write_row.ensures.room ++ back) z k)) (sym e)
-          (subst (LeastFrom v line.pegs.now line.fixed.now t k) (sym (here front row store t split.front_len c.write_row.ensures.room back k low)) (c.write_row.ensures.written k low))
-      | inr ne ↦ subst (LeastFrom v line.pegs.now line.fixed.now u k) (sym (later front row store t split.front_len c.write_row.ensures.room back split.back u k (omega arith)))
+      | inl e ↦ subst (λ z. LeastFrom v line.pegs.now line.fixed.now z k (entry (written front row store t split.front_len c.write_row.ensures.count ++ back) z k)) (sym e)
+          (subst (LeastFrom v line.pegs.now line.fixed.now t k) (sym (here front row store t split.front_len c.write_row.ensures.count back k low)) (c.write_row.ensures.written k low))
+      | inr ne ↦ subst (LeastFrom v line.pegs.now line.fixed.now u k) (sym (later front row store t split.front_len c.write_row.ensures.count back split.back u k (omega arith)))
           (c.requires.after u (omega arith) b k low)
     ]

@@ -14,13 +14,13 @@ step_in l most = omega arith
 pub loop-t-init : goal.loop-t-init
 loop-t-init g c =
     let lengths = c.args.lengths.now in
-    walked_none _ _ _ _ c.requires.rows.0 c.requires.rows.1 _ (omega (arith, c.args.self.now.line.sound.least)) (length-set lengths 0 0 ∙ c.requires.room.1) (get_or-set_same lengths 0 0 0 (omega (arith, c.args.self.now.line.sound.least)))
+    walked_none _ _ _ _ c.requires.rows c.requires.reached _ (omega (arith, c.args.self.now.line.sound.least)) (length-set lengths 0 0 ∙ c.requires.count) (get_or-set_same lengths 0 0 0 (omega (arith, c.args.self.now.line.sound.least)))
 
 pub overflow_sub-goal : goal.overflow_sub-goal
 overflow_sub-goal g c =
     let l = len c.loop-t.lengths c.loop-t.t in
     let here : slice_index c.row.result.now (l / 5) ≡ entry c.args.store.now c.loop-t.t (l / 5) = c.row.ensures.entries (l / 5) (step_in l (c.loop-t.invariant.pegs c.loop-t.t (omega arith)).most) in
-    subst (λ z. l ≤ z) (sym here) (here_leads _ _ _ _ c.requires.rows.0 c.requires.rows.1 _ _ (omega arith) c.loop-t.invariant).0
+    subst (λ z. l ≤ z) (sym here) (here_leads _ _ _ _ c.requires.rows c.requires.reached _ _ (omega arith) c.loop-t.invariant).0
 
 pub pick-requires : goal.pick-requires
 pick-requires g c =
@@ -31,14 +31,13 @@ pick-requires g c =
     let keeps = c.loop-t.invariant.pegs t (omega arith) in
     let here : slice_index c.row.result.now (l / 5) ≡ entry store t (l / 5) = c.row.ensures.entries (l / 5) (step_in l keeps.most) in
     record {
-      there = (omega arith, c.requires.room.0);
-      flat = ends_flat _ _ _ (entry store (t + 1)) _ (c.requires.rows.0 _ (omega arith) (omega arith));
+      next = omega arith;
+      room = c.requires.room;
+      flat = ends_flat _ _ _ (entry store (t + 1)) _ (c.requires.rows _ (omega arith) (omega arith));
       first = keeps.first;
-      reached = (
-        omega (arith, here_reached _ _ _ _ c.requires.rows.0 c.requires.rows.1 _ _ (omega arith) c.loop-t.invariant),
-        subst (λ z. (j : ℕ) × (j < 401) × Leads line.pegs.now line.fixed.now (entry store (t + 1)) t l (z - l) j) (sym here)
-            (here_leads _ _ _ _ c.requires.rows.0 c.requires.rows.1 _ _ (omega arith) c.loop-t.invariant).1,
-      );
+      total = omega (arith, here_reached _ _ _ _ c.requires.rows c.requires.reached _ _ (omega arith) c.loop-t.invariant);
+      reached = subst (λ z. (j : ℕ) × (j < 401) × Leads line.pegs.now line.fixed.now (entry store (t + 1)) t l (z - l) j) (sym here)
+          (here_leads _ _ _ _ c.requires.rows c.requires.reached _ _ (omega arith) c.loop-t.invariant).1;
     }
 
 pub loop-t-preserved : goal.loop-t-preserved
@@ -48,12 +47,13 @@ loop-t-preserved g c =
     let t = c.loop-t.t in
     let l = len c.loop-t.lengths t in
     let here : slice_index c.row.result.now (l / 5) ≡ entry store t (l / 5) = c.row.ensures.entries (l / 5) (step_in l (c.loop-t.invariant.pegs t (omega arith)).most) in
-    walked_more _ _ _ _ c.requires.rows.0 c.requires.rows.1 _ _ (omega arith) c.loop-t.invariant c.requires.grades _
+    walked_more _ _ _ _ c.requires.rows c.requires.reached _ _ (omega arith) c.loop-t.invariant c.requires.grades _
     (subst (λ z. Picked line.pegs.now line.fixed.now (entry store (t + 1)) t l (z - l) c.pick.result) here c.pick.ensures)
 
 pub returns : goal.returns
 returns g c =
-    let last : c.loop-t.t + 1 ≡ length c.args.self.now.line.pegs.now = omega (arith, c.args.self.now.line.sound.least) in (
-      walked_best _ _ _ _ c.requires.rows.0 c.requires.rows.1 _ _ last c.loop-t.invariant,
-      walked_total _ _ _ _ c.requires.rows.0 c.requires.rows.1 _ _ last c.loop-t.invariant,
-    )
+    let last : c.loop-t.t + 1 ≡ length c.args.self.now.line.pegs.now = omega (arith, c.args.self.now.line.sound.least) in
+    record {
+      best = walked_best _ _ _ _ c.requires.rows c.requires.reached _ _ last c.loop-t.invariant;
+      total = walked_total _ _ _ _ c.requires.rows c.requires.reached _ _ last c.loop-t.invariant;
+    }
