@@ -1,7 +1,7 @@
 use Rattle.std.proofs.Common.{◌≡◌, ℕ, ◌+◌, ◌-◌, length, sym, subst, arith}
 use Rattle.fitting.specs.Rules.{len}
-use Rattle.fitting.specs.Stretches.{Inside, Lengths, Room, Sound}
-use Rattle.fitting.proofs.OnLine.{stretch_inside, stretch_lengths, stretch_room, stretch_sound}
+use Rattle.fitting.specs.Stretches.{Lengths, Room, Sound}
+use Rattle.fitting.proofs.OnLine.{stretch_lengths, stretch_room, stretch_sound}
 use Rattle.fitting.proofs.grade_line.GradeLine.level_on.Goals as goal
 
 one_less : (i n : ℕ) → i + 2 ≡ n → n - 1 ≡ i + 1
@@ -22,14 +22,10 @@ invariant_of-nearest_level c =
           (stretch_lengths ps i (len ls i) (len ls (i + 1)) so.rising low apart.0 apart.1 apart.2 (λ z. subst (λ k. len ls k ≡ 0) (sym z) c.requires.first) (λ z. subst (λ k. len ls k ≡ 0) (one_less i (length ps) z) c.requires.last));
     }
 
-pub nearest_level-requires : goal.nearest_level-requires
-nearest_level-requires c =
+pub nearest_level-requires-clause-room : goal.nearest_level-requires-clause-room
+nearest_level-requires-clause-room c =
     let ps = c.args.self.now.pegs.now in
     let ls = c.args.lengths.now in
     let i = c.stretch_of-i.result in
-    let low = c.stretch_of-i.ensures.there in
-    let e = sym c.stretch_at.ensures in
-    record {
-      room = subst (λ t. Room t (len ls i) (len ls (i + 1))) e (stretch_room ps ls i c.args.self.now.sound.rising low c.requires.first c.requires.last (λ j l. (c.requires.apart j l).2));
-      inside = subst (λ t. Inside t c.args.station) e (stretch_inside ps i c.args.station low c.requires.road c.stretch_of-i.ensures.on);
-    }
+    subst (λ t. Room t (len ls i) (len ls (i + 1))) (sym c.stretch_at.ensures)
+    (stretch_room ps ls i c.args.self.now.sound.rising c.stretch_of-i.ensures.there c.requires.first c.requires.last (λ j l. (c.requires.apart j l).2))

@@ -6,14 +6,11 @@ use Rattle.fitting.specs.Walked.{RowOpen}
 use Rattle.fitting.proofs.Entries.{first_open, row_closed, row_open}
 use Rattle.fitting.proofs.judge.Judge.fill_rows.Goals as goal
 
-pub returns-then-is_closed : goal.returns-then-is_closed
-returns-then-is_closed g c = record {
-  filled = record {
-    there = omega arith;
-    closed = row_closed _ _ _ c.args.self.now.line.sound.most (entry c.fill_row.new.store (c.loop-t.t - 1)) _ (omega arith) (c.fill_row.ensures.filled _ (omega arith) (omega arith)) c.if-is_closed.ensures;
-    open_after = λ u a b. c.loop-t.invariant.1 u (omega arith) b;
-  };
-  room = omega arith;
+pub returns-then-is_closed-clause-filled : goal.returns-then-is_closed-clause-filled
+returns-then-is_closed-clause-filled g c = record {
+  there = omega arith;
+  closed = row_closed _ _ _ c.args.self.now.line.sound.most (entry c.fill_row.new.store (c.loop-t.t - 1)) _ (omega arith) (c.fill_row.ensures.filled _ (omega arith) (omega arith)) c.if-is_closed.ensures;
+  open_after = λ u a b. c.loop-t.invariant.1 u (omega arith) b;
 }
 
 pub loop-t-preserved : goal.loop-t-preserved
@@ -26,11 +23,9 @@ loop-t-preserved g c =
       ],
     )
 
-pub returns : goal.returns
-returns g c = record {
-  filled = (
-    (λ u a b. c.loop-t.invariant.0 u (omega arith) b),
-    first_open _ _ _ c.args.self.now.line.sound.most (entry c.loop-t.store 0) (omega (arith, c.args.self.now.line.sound.least)) (c.loop-t.invariant.0 0 (omega arith) (omega (arith, c.args.self.now.line.sound.least))) (c.loop-t.invariant.1 0 (omega arith) (omega (arith, c.args.self.now.line.sound.least))),
-  );
-  room = c.loop-t.auto.store;
-}
+pub returns-clause-filled : goal.returns-clause-filled
+returns-clause-filled g c =
+    let some = c.args.self.now.line.sound.least in (
+      (λ u a b. c.loop-t.invariant.0 u (omega arith) b),
+      first_open _ _ _ c.args.self.now.line.sound.most (entry c.loop-t.store 0) (omega arith) (c.loop-t.invariant.0 0 (omega arith) (omega arith)) (c.loop-t.invariant.1 0 (omega arith) (omega arith)),
+    )

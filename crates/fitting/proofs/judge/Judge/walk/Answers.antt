@@ -1,20 +1,13 @@
-use Rattle.std.proofs.Common.{◌≡◌, ℕ, ◌+◌, ◌-◌, ◌/◌, ◌<◌, ◌≤◌, length, slice_index, sym, ◌∙◌, subst, arith}
-use Rattle.std.proofs.lemmas.List.{get_or-set_same, length-set}
+use Rattle.std.proofs.Common.{◌≡◌, ℕ, ◌+◌, ◌-◌, ◌/◌, ◌<◌, ◌≤◌, length, slice_index, sym, subst, arith}
 use Rattle.fitting.specs.Rules.{len}
 use Rattle.fitting.specs.Walked.{Leads, Picked}
 use Rattle.fitting.specs.Rows.{entry}
-use Rattle.fitting.proofs.Entries.{ends_flat}
-use Rattle.fitting.proofs.Walks.{here_leads, here_reached, walked_best, walked_more, walked_none, walked_total}
+use Rattle.fitting.proofs.Walks.{here_leads, walked_best, walked_more, walked_total}
 use Rattle.fitting.proofs.judge.Judge.walk.Goals as goal
 
 -- a length's place in its row
 step_in : (l : ℕ) → l ≤ 2000 → l / 5 < 401
 step_in l most = omega arith
-
-pub loop-t-init : goal.loop-t-init
-loop-t-init g c =
-    let lengths = c.args.lengths.now in
-    walked_none _ _ _ _ c.requires.rows c.requires.reached _ (omega (arith, c.args.self.now.line.sound.least)) (length-set lengths 0 0 ∙ c.requires.count) (get_or-set_same lengths 0 0 0 (omega (arith, c.args.self.now.line.sound.least)))
 
 pub overflow_sub-goal : goal.overflow_sub-goal
 overflow_sub-goal g c =
@@ -22,23 +15,15 @@ overflow_sub-goal g c =
     let here : slice_index c.row.result.now (l / 5) ≡ entry c.args.store.now c.loop-t.t (l / 5) = c.row.ensures.entries (l / 5) (step_in l (c.loop-t.invariant.pegs c.loop-t.t (omega arith)).most) in
     subst (λ z. l ≤ z) (sym here) (here_leads _ _ _ _ c.requires.rows c.requires.reached _ _ (omega arith) c.loop-t.invariant).0
 
-pub pick-requires : goal.pick-requires
-pick-requires g c =
+pub pick-requires-clause-reached : goal.pick-requires-clause-reached
+pick-requires-clause-reached g c =
     let line = c.args.self.now.line in
     let store = c.args.store.now in
     let t = c.loop-t.t in
     let l = len c.loop-t.lengths t in
-    let keeps = c.loop-t.invariant.pegs t (omega arith) in
-    let here : slice_index c.row.result.now (l / 5) ≡ entry store t (l / 5) = c.row.ensures.entries (l / 5) (step_in l keeps.most) in
-    record {
-      next = omega arith;
-      room = c.requires.room;
-      flat = ends_flat _ _ _ (entry store (t + 1)) _ (c.requires.rows _ (omega arith) (omega arith));
-      first = keeps.first;
-      total = omega (arith, here_reached _ _ _ _ c.requires.rows c.requires.reached _ _ (omega arith) c.loop-t.invariant);
-      reached = subst (λ z. (j : ℕ) × (j < 401) × Leads line.pegs.now line.fixed.now (entry store (t + 1)) t l (z - l) j) (sym here)
-          (here_leads _ _ _ _ c.requires.rows c.requires.reached _ _ (omega arith) c.loop-t.invariant).1;
-    }
+    let here : slice_index c.row.result.now (l / 5) ≡ entry store t (l / 5) = c.row.ensures.entries (l / 5) (step_in l (c.loop-t.invariant.pegs t (omega arith)).most) in
+    subst (λ z. (j : ℕ) × (j < 401) × Leads line.pegs.now line.fixed.now (entry store (t + 1)) t l (z - l) j) (sym here)
+    (here_leads _ _ _ _ c.requires.rows c.requires.reached _ _ (omega arith) c.loop-t.invariant).1
 
 pub loop-t-preserved : goal.loop-t-preserved
 loop-t-preserved g c =

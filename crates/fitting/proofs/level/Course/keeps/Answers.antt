@@ -2,20 +2,7 @@ use Rattle.std.proofs.Common.{arith}
 use Rattle.std.proofs.lemmas.Bool.{le-leb, leb-true}
 use Rattle.fitting.specs.Levels.{level_at}
 use Rattle.fitting.proofs.Fractions.{at_least, at_most, from_at_least, from_at_most}
-use Rattle.fitting.proofs.Sizes.{bound}
 use Rattle.fitting.proofs.level.Course.keeps.Goals as goal
-
-pub overflow_mul-low : goal.overflow_mul-low
-overflow_mul-low c = omega (arith, bound c.args.fixed.low c.exact_at-e.result.den (omega arith) (omega arith))
-
-pub overflow_add-low : goal.overflow_add-low
-overflow_add-low c = omega (arith, bound c.args.fixed.low c.exact_at-e.result.den (omega arith) (omega arith))
-
-pub overflow_mul-high : goal.overflow_mul-high
-overflow_mul-high c = omega (arith, bound c.args.fixed.high c.exact_at-e.result.den (omega arith) (omega arith))
-
-pub overflow_add-high : goal.overflow_add-high
-overflow_add-high c = omega (arith, bound c.args.fixed.high c.exact_at-e.result.den (omega arith) (omega arith))
 
 pub returns-then-low-e : goal.returns-then-low-e
 returns-then-low-e c =

@@ -10,40 +10,24 @@ use Rattle.fitting.proofs.level.Course.nearest_level.Goals as goal
 abbrev Between : Exact → Type 0
 Between e = (e.down ≤ e.up) × (e.up ≤ 9000000 * e.den + e.down)
 
-most : (e : Exact) (r : ℕ) → Between e → Rounded (e.up - e.down) e.den r → r ≤ 9000000
-most e r b w = w.most 9000000 (omega arith)
+near : (f : Fraction) (e : Exact) (r : ℕ) → Stands f e → Between e → Rounded (e.up - e.down) e.den r → Nearest f r
+near f e r h b w = nearest f e r (e.up - e.down) h (omega arith) w.low w.high
 
--- what is promised of the level and of its rounding
-record Told (f : Fraction) (r : ℕ) : Type 0 where
-  near : Nearest f r
-  most : r ≤ 9000000
-  range : AtLeast 0 f × AtMost 9000000 f
+range : (f : Fraction) (e : Exact) → Stands f e → Between e → AtLeast 0 f × AtMost 9000000 f
+range f e h b = (at_least f e 0 h (omega arith), at_most f e 9000000 h b.1)
 
-told : (f : Fraction) (e : Exact) (r : ℕ) → Stands f e → Between e → Rounded (e.up - e.down) e.den r → Told f r
-told f e r h b w = record {
-  near = nearest f e r (e.up - e.down) h (omega arith) w.low w.high;
-  most = most e r b w;
-  range = (at_least f e 0 h (omega arith), at_most f e 9000000 h b.1);
-}
-
-pub overflow_cast-result : goal.overflow_cast-result
-overflow_cast-result c =
+pub returns-then-num-e-clause-nearest : goal.returns-then-num-e-clause-nearest
+returns-then-num-e-clause-nearest c =
     let e = c.exact_at-e.ensures in
-    omega (arith, most c.exact_at-e.result _ (e.between c.requires.room) (round_down _ _ e.stands.some c.if-num-e.true))
+    near _ c.exact_at-e.result _ e.stands (e.between c.requires.room) (round_down _ _ e.stands.some c.if-num-e.true)
 
-pub overflow_cast-result-else-num-e : goal.overflow_cast-result-else-num-e
-overflow_cast-result-else-num-e c =
-    let e = c.exact_at-e.ensures in
-    omega (arith, most c.exact_at-e.result _ (e.between c.requires.room) (round_up _ _ e.stands.some c.if-num-e.false))
+pub returns-then-num-e-clause-range : goal.returns-then-num-e-clause-range
+returns-then-num-e-clause-range c = range _ c.exact_at-e.result c.exact_at-e.ensures.stands (c.exact_at-e.ensures.between c.requires.room)
 
-pub returns-then-num-e : goal.returns-then-num-e
-returns-then-num-e c =
+pub returns-else-num-e-clause-nearest : goal.returns-else-num-e-clause-nearest
+returns-else-num-e-clause-nearest c =
     let e = c.exact_at-e.ensures in
-    let w = told _ c.exact_at-e.result _ e.stands (e.between c.requires.room) (round_down _ _ e.stands.some c.if-num-e.true) in
-    record { nearest = w.near; most = w.most; range = w.range }
+    near _ c.exact_at-e.result _ e.stands (e.between c.requires.room) (round_up _ _ e.stands.some c.if-num-e.false)
 
-pub returns-else-num-e : goal.returns-else-num-e
-returns-else-num-e c =
-    let e = c.exact_at-e.ensures in
-    let w = told _ c.exact_at-e.result _ e.stands (e.between c.requires.room) (round_up _ _ e.stands.some c.if-num-e.false) in
-    record { nearest = w.near; most = w.most; range = w.range }
+pub returns-else-num-e-clause-range : goal.returns-else-num-e-clause-range
+returns-else-num-e-clause-range c = range _ c.exact_at-e.result c.exact_at-e.ensures.stands (c.exact_at-e.ensures.between c.requires.room)

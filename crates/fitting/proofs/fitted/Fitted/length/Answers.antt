@@ -1,0 +1,6 @@
+use Rattle.std.proofs.Common.{rules}
+use Rattle.std.proofs.lemmas.List.{get_or-take}
+use Rattle.fitting.proofs.fitted.Fitted.length.Goals as goal
+
+pub returns : goal.returns
+returns c = search (rules, get_or-take) depth 12
