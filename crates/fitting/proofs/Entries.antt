@@ -7,7 +7,7 @@ use Rattle.pegs.specs.declared.slot.Slot.{Slot}
 use Rattle.fitting.specs.declared.alignment.Standing.{Standing}
 use Rattle.fitting.specs.Rows.{LeastFrom, RowMeans, none}
 use Rattle.fitting.specs.Rules.{Closed, GradePasses, MeetsFrom, PegKeeps, StretchKeeps, Verdicts, len}
-use Rattle.fitting.specs.Walked.{EndsFlat, Joins, LeastJoined, RowOpen, entry}
+use Rattle.fitting.specs.Walked.{EndsFlat, Joins, LeastJoined, RowOpen}
 use Rattle.fitting.proofs.FromPeg.{meets_before, meets_later, meets_none, sum_drop, sum-drop-set, sum_short, whole_steps}
 
 module _ (c : Verdicts) (ps : List Standing) (fixed : List (Slot FixedLevel)) where
@@ -37,8 +37,8 @@ module _ (c : Verdicts) (ps : List Standing) (fixed : List (Slot FixedLevel)) wh
   same_stretch t l l' r r' a b s = subst (λ z. StretchKeeps c ps fixed t l' z) b (subst (λ z. StretchKeeps c ps fixed t z r) a s)
 
   -- before the last peg, the total is its own length and the least total after it
-  pub least_more : (store : List ℕ) (t k m e : ℕ) → t + 1 < length ps → GradePasses c ps t → PegKeeps c ps t (5 * k) → RowMeans c ps fixed store (t + 1) → LeastJoined ps fixed store t (5 * k) 401 m → e ≡ min (m + 5 * k) none → LeastFrom c ps fixed t k e
-  least_more store t k m e b g p row low is = record {
+  pub least_more : (next : ℕ → ℕ) (t k m e : ℕ) → t + 1 < length ps → GradePasses c ps t → PegKeeps c ps t (5 * k) → RowMeans c ps fixed next (t + 1) → LeastJoined ps fixed next t (5 * k) 401 m → e ≡ min (m + 5 * k) none → LeastFrom c ps fixed t k e
+  least_more next t k m e b g p row low is = record {
     found = λ f.
         let j = low.found (omega arith) in
         let after = (row j.0 j.1).found (omega (arith, j.3)) in
@@ -58,38 +58,38 @@ module _ (c : Verdicts) (ps : List Standing) (fixed : List (Slot FixedLevel)) wh
   }
 
   -- a total is at most its own length and a total after it that it may stand before
-  pub no_more : (store : List ℕ) (t k j : ℕ) → t + 1 < length ps → k < 401 → j < 401 → RowMeans c ps fixed store t → RowMeans c ps fixed store (t + 1) → PegKeeps c ps t (5 * k) → StretchKeeps c ps fixed t (5 * k) (5 * j) → entry store (t + 1) j < none → entry store t k ≤ 5 * k + entry store (t + 1) j
-  no_more store t k j b k-below j-below row next p s f =
-      let after = (next j j-below).found f in
+  pub no_more : (row next : ℕ → ℕ) (t k j : ℕ) → t + 1 < length ps → k < 401 → j < 401 → RowMeans c ps fixed row t → RowMeans c ps fixed next (t + 1) → PegKeeps c ps t (5 * k) → StretchKeeps c ps fixed t (5 * k) (5 * j) → next j < none → row k ≤ 5 * k + next j
+  no_more row next t k j b k-below j-below means after-means p s f =
+      let after = (after-means j j-below).found f in
       let keeps = same_stretch t (5 * k) (5 * k) (5 * j) (len after.0 (t + 1)) refl (sym after.2) s in
       let new = before t (5 * k) after.0 (omega arith) after.1 p (λ l. keeps) in
-      omega (arith, (row k k-below).least new.0 new.1 new.2, new.3, after.3)
+      omega (arith, (means k k-below).least new.0 new.1 new.2, new.3, after.3)
 
   -- a total at the last peg is that of the length 0
-  pub ends_flat : (store : List ℕ) (t : ℕ) → RowMeans c ps fixed store t → EndsFlat ps store t
-  ends_flat store t row e k b f =
-      let at = (row k b).found f in
+  pub ends_flat : (row : ℕ → ℕ) (t : ℕ) → RowMeans c ps fixed row t → EndsFlat ps row t
+  ends_flat row t means e k b f =
+      let at = (means k b).found f in
       omega (arith, at.2, (at.1.pegs t (omega arith) (omega arith)).last e)
 
   -- a row with a total leaves the road open
-  pub row_open : (store : List ℕ) (t : ℕ) → RowMeans c ps fixed store t → RowOpen store t → Closed c ps fixed t → ⊥
-  row_open store t row there closed =
-      let at = (row there.0 there.1).found there.2 in
+  pub row_open : (row : ℕ → ℕ) (t : ℕ) → RowMeans c ps fixed row t → RowOpen row → Closed c ps fixed t → ⊥
+  row_open row t means there closed =
+      let at = (means there.0 there.1).found there.2 in
       closed at.0 at.1
 
-  module _ (most : length ps ≤ 40) (store : List ℕ) where
+  module _ (most : length ps ≤ 40) (row : ℕ → ℕ) where
     -- a row without totals closes the road
-    pub row_closed : (t : ℕ) → t < length ps → RowMeans c ps fixed store t → ((k : ℕ) → k < 401 → entry store t k ≡ none) → Closed c ps fixed t
-    row_closed t b row empty ls m =
+    pub row_closed : (t : ℕ) → t < length ps → RowMeans c ps fixed row t → ((k : ℕ) → k < 401 → row k ≡ none) → Closed c ps fixed t
+    row_closed t b means empty ls m =
         let w = whole_steps c ps fixed t ls m t (omega arith) b in
         let k = len ls t / 5 in
-        omega (arith, (row k w.1).least ls m w.0, empty k w.1, sum_short c ps fixed t ls m)
+        omega (arith, (means k w.1).least ls m w.0, empty k w.1, sum_short c ps fixed t ls m)
 
     -- a road that is open has a total in its first row, at the length 0
-    pub first_open : 0 < length ps → RowMeans c ps fixed store 0 → (Closed c ps fixed 0 → ⊥) → entry store 0 0 < none
-    first_open b row there =
-        elim (cases_lt (entry store 0 0) none) [
+    pub first_open : 0 < length ps → RowMeans c ps fixed row 0 → (Closed c ps fixed 0 → ⊥) → row 0 < none
+    first_open b means there =
+        elim (cases_lt (row 0) none) [
           | inl l ↦ l
           | inr l ↦ absurd (there (λ ls m.
-              omega (arith, (row 0 (omega arith)).least ls m ((m.pegs 0 (omega arith) b).first refl), sum_short c ps fixed 0 ls m)))
+              omega (arith, (means 0 (omega arith)).least ls m ((m.pegs 0 (omega arith) b).first refl), sum_short c ps fixed 0 ls m)))
         ]

@@ -1,13 +1,11 @@
 pub mod Slots
 pub mod InForce
-pub mod Sizes
 pub mod Differences
 pub mod Fractions
 pub mod Between
 pub mod Covered
 pub mod Rounding
 pub mod OnLine
-pub mod Laying
 pub mod FromPeg
 pub mod LowSoFar
 pub mod Entries

@@ -7,9 +7,9 @@ use Rattle.pegs.specs.declared.peg.FixedLevel.{FixedLevel}
 use Rattle.pegs.specs.declared.slot.Slot.{Slot}
 use Rattle.fitting.specs.declared.alignment.Standing.{Standing}
 use Rattle.fitting.specs.Best.{Best}
-use Rattle.fitting.specs.Rows.{RowsFrom, none}
-use Rattle.fitting.specs.Rules.{Meets, PegKeeps, StretchKeeps, Verdicts, len}
-use Rattle.fitting.specs.Walked.{AllGrades, Leads, Picked, Walked, entry}
+use Rattle.fitting.specs.Rows.{RowsFrom, entry, none}
+use Rattle.fitting.specs.Rules.{GradesPass, Meets, PegKeeps, StretchKeeps, Verdicts, len}
+use Rattle.fitting.specs.Walked.{Leads, Picked, Walked}
 use Rattle.fitting.proofs.Entries.{joins_keeps, no_more, same_stretch}
 use Rattle.fitting.proofs.FromPeg.{meets_later, sum_drop, whole_steps}
 
@@ -29,7 +29,7 @@ same_front ls ms n a b same =
 
 module _ (c : Verdicts) (ps : List Standing) (fixed : List (Slot FixedLevel)) (store : List ℕ) (rows : RowsFrom c ps fixed store 0) where
   -- from a total there is an entry after that leads on
-  pub leads_on : (t l : ℕ) → t + 1 < length ps → l ≡ 5 * (l / 5) → l / 5 < 401 → entry store t (l / 5) < none → (l ≤ entry store t (l / 5)) × ((j : ℕ) × (j < 401) × Leads ps fixed store t l (entry store t (l / 5) - l) j)
+  pub leads_on : (t l : ℕ) → t + 1 < length ps → l ≡ 5 * (l / 5) → l / 5 < 401 → entry store t (l / 5) < none → (l ≤ entry store t (l / 5)) × ((j : ℕ) × (j < 401) × Leads ps fixed (entry store (t + 1)) t l (entry store t (l / 5) - l) j)
   leads_on t l b whole below f =
       let row = rows t (omega arith) (omega arith) in
       let next = rows (t + 1) (omega arith) b in
@@ -45,7 +45,7 @@ module _ (c : Verdicts) (ps : List Standing) (fixed : List (Slot FixedLevel)) (s
       let low = (next (len ls (t + 1) / 5) w.1).least ls (meets_later c ps fixed t (t + 1) ls (omega arith) m) w.0 in
       let parts = sum_drop ls t (omega (arith, m.count)) in
       let total : sum (drop t ls) ≡ entry store t (l / 5) = at.3 in
-      let high = no_more c ps fixed store t (l / 5) (len ls (t + 1) / 5) b below w.1 row next p s (omega arith) in
+      let high = no_more c ps fixed (entry store t) (entry store (t + 1)) t (l / 5) (len ls (t + 1) / 5) b below w.1 row next p s (omega arith) in
       (omega arith, (j, w.1, ((j-joins.apart, j-joins.kept), omega arith)))
 
   -- a total is that of a length that its peg may have
@@ -78,10 +78,10 @@ module _ (c : Verdicts) (ps : List Standing) (fixed : List (Slot FixedLevel)) (s
       here_reached = omega (arith, w.rest)
 
       -- the entry of its length leads on
-      pub here_leads : (len ls t ≤ entry store t (len ls t / 5)) × ((j : ℕ) × (j < 401) × Leads ps fixed store t (len ls t) (entry store t (len ls t / 5) - len ls t) j)
+      pub here_leads : (len ls t ≤ entry store t (len ls t / 5)) × ((j : ℕ) × (j < 401) × Leads ps fixed (entry store (t + 1)) t (len ls t) (entry store t (len ls t / 5) - len ls t) j)
       here_leads = leads_on t (len ls t) b here_whole.0 here_whole.1 here_reached
 
-      module _ (grades : AllGrades c ps) (k : ℕ) (p : Picked ps fixed store t (len ls t) (entry store t (len ls t / 5) - len ls t) k) where
+      module _ (grades : GradesPass c ps) (k : ℕ) (p : Picked ps fixed (entry store (t + 1)) t (len ls t) (entry store t (len ls t / 5) - len ls t) k) where
         old : (i : ℕ) → i < t + 1 → len (set ls (t + 1) (5 * k)) i ≡ len ls i
         old i d = get_or-set_other ls (t + 1) i (5 * k) 0 (omega arith)
 
@@ -130,7 +130,7 @@ module _ (c : Verdicts) (ps : List Standing) (fixed : List (Slot FixedLevel)) (s
             let rest : sum (take t ls) + entry store t (len ls t / 5) ≡ entry store 0 0 = w.rest in
             let below : entry store (t + 1) (len ms (t + 1) / 5) ≤ entry store t (len ls t / 5) - len ls t = omega arith in
             let down : entry store t (len ls t / 5) ≤ 5 * (len ls t / 5) + entry store (t + 1) (len ms (t + 1) / 5) =
-            no_more c ps fixed store t (len ls t / 5) (len ms (t + 1) / 5) b here_whole.1 u.1 (rows t (omega arith) (omega arith)) (rows (t + 1) (omega arith) b)
+            no_more c ps fixed (entry store t) (entry store (t + 1)) t (len ls t / 5) (len ms (t + 1) / 5) b here_whole.1 u.1 (rows t (omega arith) (omega arith)) (rows (t + 1) (omega arith) b)
             (subst (λ z. PegKeeps c ps t z) here_whole.0 here_keeps) s5 (omega (arith, here_reached)) in
             let goal : entry store (t + 1) (len ms (t + 1) / 5) ≡ entry store t (len ls t / 5) - len ls t = omega (arith, here_whole.0, here_leads.0) in
             elim (cases_lt (len ms (t + 1) / 5) k) [

@@ -9,15 +9,11 @@ use Rattle.fitting.specs.declared.fit.NoFit.TheVariants.{StoreTooSmall, Grade, T
 use Rattle.fitting.specs.declared.examine.Broken.TheVariants as broken
 use Rattle.fitting.specs.Examined.{GradeRefused, broken_number}
 use Rattle.fitting.specs.Line.{number, turn}
-use Rattle.fitting.specs.Rules.{GradePasses, LastClosed, Verdicts}
+use Rattle.fitting.specs.Rules.{GradePasses, GradesPass, LastClosed, Verdicts}
 
 -- the working store has 401 words for each peg
 abbrev pub Roomy : List Standing → ℕ → Type 0
 Roomy ps words = 401 * length ps ≤ words
-
--- the code passes every grade
-abbrev pub GradesPass : Verdicts → List Standing → Type 0
-GradesPass c ps = (i : ℕ) → i + 1 < length ps → GradePasses c ps i
 
 -- the first grade that the code refuses
 pub record FirstGrade (c : Verdicts) (ps : List Standing) (i clause : ℕ) : Type 0 where

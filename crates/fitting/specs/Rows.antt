@@ -14,10 +14,14 @@ pub record LeastFrom (c : Verdicts) (ps : List Standing) (fixed : List (Slot Fix
   pub found : e < none → (ls : List ℕ) × MeetsFrom c ps fixed t ls × (len ls t ≡ 5 * k) × (sum (drop t ls) ≡ e)
   pub least : (ls : List ℕ) → MeetsFrom c ps fixed t ls → len ls t ≡ 5 * k → e ≤ sum (drop t ls)
 
--- the row of the peg t in the store: entry k is the least total from there on with the length 5 k
-abbrev pub RowMeans : Verdicts → List Standing → List (Slot FixedLevel) → List ℕ → ℕ → Type 0
-RowMeans c ps fixed store t = (k : ℕ) → k < 401 → LeastFrom c ps fixed t k (slice_index store (t * 401 + k))
+-- a row of the peg t: entry k is the least total from there on with the length 5 k
+abbrev pub RowMeans : Verdicts → List Standing → List (Slot FixedLevel) → (row : ℕ → ℕ) → ℕ → Type 0
+RowMeans c ps fixed row t = (k : ℕ) → k < 401 → LeastFrom c ps fixed t k (row k)
+
+-- entry k of the row of the peg t in the store
+abbrev pub entry : List ℕ → (t k : ℕ) → ℕ
+entry store t k = slice_index store (t * 401 + k)
 
 -- the rows from the peg t on
 abbrev pub RowsFrom : Verdicts → List Standing → List (Slot FixedLevel) → List ℕ → ℕ → Type 0
-RowsFrom c ps fixed store t = (u : ℕ) → t ≤ u → u < length ps → RowMeans c ps fixed store u
+RowsFrom c ps fixed store t = (u : ℕ) → t ≤ u → u < length ps → RowMeans c ps fixed (entry store u) u

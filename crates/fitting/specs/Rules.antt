@@ -2,6 +2,7 @@
 use Rattle.std.specs.Prelude.{◌≡◌, ℕ, ◌+◌, ◌*◌, ◌%◌, ◌<◌, ◌≤◌, List, length, ℤ, Some, slice_index}
 use Rattle.pegs.specs.declared.peg.FixedLevel.{FixedLevel}
 use Rattle.pegs.specs.declared.slot.Slot.{Slot}
+use Rattle.rules.specs.declared.code.RoadCode as code
 use Rattle.rules.specs.declared.turn.Bend.{Bend}
 use Rattle.fitting.specs.declared.alignment.Standing.{Standing}
 use Rattle.fitting.specs.Levels.{AtLeast, AtMost, Fraction, level_at, stretch}
@@ -13,8 +14,9 @@ pub record Verdicts : Type 0 where
   pub grade : ℤ → ℕ → ℕ
   pub curve : Bend → ℕ → ℕ
 
-abbrev pub verdicts : (ℤ → ℕ → ℕ) → (Bend → ℕ → ℕ) → Verdicts
-verdicts grade curve = record { grade = grade; curve = curve }
+-- the verdicts of a code, by its trait's two
+abbrev pub verdicts : {C : Type 0} → code.Ghosts C → C → Verdicts
+verdicts bound c = record { grade = bound.grade_verdict c; curve = bound.curve_verdict c }
 
 -- the length of the i-th peg's curve
 abbrev pub len : List ℕ → ℕ → ℕ
@@ -47,6 +49,10 @@ Apart ps i l r = l + r ≤ 2 * gap ps i
 -- the code passes the grade from the i-th peg to the next
 abbrev pub GradePasses : Verdicts → List Standing → ℕ → Type 0
 GradePasses c ps i = c.grade (climb ps i) (gap ps i) ≡ 0
+
+-- the code passes every grade
+abbrev pub GradesPass : Verdicts → List Standing → Type 0
+GradesPass c ps = (i : ℕ) → i + 1 < length ps → GradePasses c ps i
 
 -- the i-th stretch keeps its rules with the lengths l and r of its two pegs
 pub record StretchKeeps (c : Verdicts) (ps : List Standing) (fixed : List (Slot FixedLevel)) (i l r : ℕ) : Type 0 where

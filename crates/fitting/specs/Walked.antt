@@ -1,46 +1,38 @@
 -- What the filling of rows and the walk along them keep. Assumes nothing.
-use Rattle.std.specs.Prelude.{◌≡◌, ℕ, ◌+◌, ◌*◌, ◌/◌, ◌<◌, ◌≤◌, List, length, take, sum, slice_index}
+use Rattle.std.specs.Prelude.{◌≡◌, ℕ, ◌+◌, ◌*◌, ◌/◌, ◌<◌, ◌≤◌, List, length, take, sum}
 use Rattle.pegs.specs.declared.peg.FixedLevel.{FixedLevel}
 use Rattle.pegs.specs.declared.slot.Slot.{Slot}
 use Rattle.fitting.specs.declared.alignment.Standing.{Standing}
-use Rattle.fitting.specs.Rows.{none}
-use Rattle.fitting.specs.Rules.{Apart, FixedKept, GradePasses, Meets, PegKeeps, StretchKeeps, Verdicts, len}
-
--- entry k of the row of the peg t
-abbrev pub entry : List ℕ → (t k : ℕ) → ℕ
-entry store t k = slice_index store (t * 401 + k)
+use Rattle.fitting.specs.Rows.{entry, none}
+use Rattle.fitting.specs.Rules.{Apart, FixedKept, Meets, PegKeeps, StretchKeeps, Verdicts, len}
 
 -- the lengths l and r of its two pegs may stand on the i-th stretch
 abbrev pub Joins : List Standing → List (Slot FixedLevel) → (i l r : ℕ) → Type 0
 Joins ps fixed i l r = Apart ps i l r × ((n : ℕ) → FixedKept ps fixed i l r n)
 
--- the code passes every grade
-abbrev pub AllGrades : Verdicts → List Standing → Type 0
-AllGrades c ps = (i : ℕ) → i + 1 < length ps → GradePasses c ps i
-
 -- in the row of the last peg only the length 0 has a total
-abbrev pub EndsFlat : List Standing → List ℕ → ℕ → Type 0
-EndsFlat ps store t = t + 1 ≡ length ps → (k : ℕ) → k < 401 → entry store t k < none → k ≡ 0
+abbrev pub EndsFlat : List Standing → (row : ℕ → ℕ) → ℕ → Type 0
+EndsFlat ps row t = t + 1 ≡ length ps → (k : ℕ) → k < 401 → row k < none → k ≡ 0
 
--- of the first n entries after the peg t, m is the least whose length may stand after l; `none` where there is no such total
-pub record LeastJoined (ps : List Standing) (fixed : List (Slot FixedLevel)) (store : List ℕ) (t l n m : ℕ) : Type 0 where
+-- of the first n entries of the row after the peg t, m is the least whose length may stand after l; `none` where there is no such total
+pub record LeastJoined (ps : List Standing) (fixed : List (Slot FixedLevel)) (next : ℕ → ℕ) (t l n m : ℕ) : Type 0 where
   pub most : m ≤ none
-  pub found : m < none → (j : ℕ) × (j < n) × Joins ps fixed t l (5 * j) × (entry store (t + 1) j ≡ m)
-  pub least : (j : ℕ) → j < n → Joins ps fixed t l (5 * j) → m ≤ entry store (t + 1) j
+  pub found : m < none → (j : ℕ) × (j < n) × Joins ps fixed t l (5 * j) × (next j ≡ m)
+  pub least : (j : ℕ) → j < n → Joins ps fixed t l (5 * j) → m ≤ next j
 
--- some length of the peg t has a total
-abbrev pub RowOpen : List ℕ → ℕ → Type 0
-RowOpen store t = (k : ℕ) × (k < 401) × (entry store t k < none)
+-- some length has a total in the row
+abbrev pub RowOpen : (row : ℕ → ℕ) → Type 0
+RowOpen row = (k : ℕ) × (k < 401) × (row k < none)
 
--- the entry k after the peg t is the total `goal`, and its length may stand after l
-abbrev pub Leads : List Standing → List (Slot FixedLevel) → List ℕ → (t l goal k : ℕ) → Type 0
-Leads ps fixed store t l goal k = Joins ps fixed t l (5 * k) × (entry store (t + 1) k ≡ goal)
+-- the entry k of the row after the peg t is the total `goal`, and its length may stand after l
+abbrev pub Leads : List Standing → List (Slot FixedLevel) → (next : ℕ → ℕ) → (t l goal k : ℕ) → Type 0
+Leads ps fixed next t l goal k = Joins ps fixed t l (5 * k) × (next k ≡ goal)
 
 -- k is the first entry that leads on
-pub record Picked (ps : List Standing) (fixed : List (Slot FixedLevel)) (store : List ℕ) (t l goal k : ℕ) : Type 0 where
+pub record Picked (ps : List Standing) (fixed : List (Slot FixedLevel)) (next : ℕ → ℕ) (t l goal k : ℕ) : Type 0 where
   pub below : k < 401
-  pub leads : Leads ps fixed store t l goal k
-  pub first : (j : ℕ) → j < k → Leads ps fixed store t l goal j → ⊥
+  pub leads : Leads ps fixed next t l goal k
+  pub first : (j : ℕ) → j < k → Leads ps fixed next t l goal j → ⊥
 
 -- the pegs up to t have the lengths of the best: they keep every rule so far, what is left comes to the least total, and no others of that total come earlier
 pub record Walked (c : Verdicts) (ps : List Standing) (fixed : List (Slot FixedLevel)) (store ls : List ℕ) (t : ℕ) : Type 0 where

@@ -26,6 +26,7 @@ pub struct InRange {
 }
 
 // The first `count` of `pegs` are in force; stations rise, and every fixed level lies on it.
+// stays: room for forty pegs beside their count, since there is no heap and the whole is copied
 #[derive(Clone, Copy)]
 pub struct Alignment {
     pub pegs: [Standing; 40],

@@ -1,22 +1,19 @@
 // The fitting of lengths: the least that meet every rule, or why there are none.
-ghost use Rattle.std.specs.Prelude.{◌≡◌, ℕ, ◌+◌, ◌*◌, ◌<◌, ◌≤◌, length, take, replicate, sum, MatchResult};
+ghost use Rattle.std.specs.Prelude.{◌≡◌, ℕ, ◌+◌, ◌*◌, ◌<◌, ◌≤◌, length, take, sum, MatchResult};
 ghost use Rattle.fitting.specs.Best.{Best};
-ghost use Rattle.fitting.specs.Fits.{GradeTold, GradesPass, IsNoFit, StoreLeft, TurnTold, TurnsPass, no_fit_number};
-ghost use Rattle.fitting.specs.Ready.{SoundAlignment};
-ghost use Rattle.fitting.specs.Rules.{verdicts};
+ghost use Rattle.fitting.specs.Fits.{GradeTold, IsNoFit, StoreLeft, TurnTold, TurnsPass, no_fit_number};
+ghost use Rattle.fitting.specs.Rules.{GradesPass, verdicts};
 
-use crate::alignment::{Alignment, Standing};
-use crate::examine::{Broken, check_grade};
+use crate::alignment::Alignment;
+use crate::examine::Broken;
 use crate::fitted::Fitted;
-use crate::rules_met::turn_at;
-use crate::walk::best_lengths;
-use pegs::peg::FixedLevel;
-use pegs::slot::Slot;
+use crate::judge::Judge;
 use rules::code::RoadCode;
 use rules::shortest::shortest;
 use std::fmt;
 
 // Why there is no fit; a stretch is told by its first peg.
+// stays: a clause is told by its number, and whoever makes a NoFit may give any
 #[derive(Clone, Copy)]
 pub enum NoFit {
     StoreTooSmall,
@@ -45,10 +42,7 @@ impl fmt::Display for NoFit {
             NoFit::StoreTooSmall => f.write_str(
                 "the working store has fewer than 401 words for each peg in force",
             ),
-            NoFit::Grade { peg, clause } => write!(
-                f,
-                "the code refuses the grade from peg {peg} to the next by its clause {clause}"
-            ),
+            NoFit::Grade { peg, clause } => write!(f, "{}", Broken::Grade { peg, clause }),
             NoFit::Turn { peg, clause } => write!(
                 f,
                 "the code refuses the turn at peg {peg} at every length, at 2000 m by its clause {clause}"
@@ -61,66 +55,54 @@ impl fmt::Display for NoFit {
     }
 }
 
-// The first grade that the code refuses.
-fn check_grades<C: RoadCode>(
-    code: &C,
-    pegs: &[Standing],
-    fixed: &[Slot<FixedLevel>],
-) -> Result<(), NoFit>
-    requires { SoundAlignment pegs.now fixed.now }
-    ensures { MatchResult result (λ _. GradesPass (verdicts (C.grade_verdict code.now) (C.curve_verdict code.now)) pegs.now) (λ e. GradeTold (verdicts (C.grade_verdict code.now) (C.curve_verdict code.now)) pegs.now e) }
-{
-    for i in 0..pegs.len() - 1 {
-        if let Err(clause) = check_grade(code, pegs, fixed, i) {
-            return Err(NoFit::Grade {
-                peg: pegs[i].number,
-                clause,
-            });
+impl<C: RoadCode> Judge<'_, C> {
+    // The first grade that the code refuses.
+    fn check_grades(&self) -> Result<(), NoFit>
+        ensures { MatchResult result (λ _. GradesPass (verdicts C.RoadCode self.now.code.now) self.now.line.pegs.now) (λ e. GradeTold (verdicts C.RoadCode self.now.code.now) self.now.line.pegs.now e) }
+    {
+        let pegs = self.line.pegs;
+        for (i, peg) in pegs[..pegs.len() - 1].iter().enumerate() {
+            let peg = peg.number;
+            self.check_grade(i).map_err(|clause| NoFit::Grade {
+                peg,
+                clause: clause.number,
+            })?;
         }
+        Ok(())
     }
-    Ok(())
-}
 
-// The first turn that the code refuses at every length.
-fn check_turns<C: RoadCode>(
-    code: &C,
-    pegs: &[Standing],
-    fixed: &[Slot<FixedLevel>],
-) -> Result<(), NoFit>
-    requires { SoundAlignment pegs.now fixed.now }
-    ensures { MatchResult result (λ _. TurnsPass (verdicts (C.grade_verdict code.now) (C.curve_verdict code.now)) pegs.now) (λ e. TurnTold (verdicts (C.grade_verdict code.now) (C.curve_verdict code.now)) pegs.now e) }
-{
-    for i in 1..pegs.len() - 1 {
-        if let Err(none) = shortest(code, turn_at(pegs, fixed, i)) {
-            return Err(NoFit::Turn {
-                peg: pegs[i].number,
-                clause: none.clause,
-            });
+    // The first turn that the code refuses at every length.
+    fn check_turns(&self) -> Result<(), NoFit>
+        ensures { MatchResult result (λ _. TurnsPass (verdicts C.RoadCode self.now.code.now) self.now.line.pegs.now) (λ e. TurnTold (verdicts C.RoadCode self.now.code.now) self.now.line.pegs.now e) }
+    {
+        let pegs = self.line.pegs;
+        for (i, peg) in pegs[1..pegs.len() - 1].iter().enumerate() {
+            if let Err(none) = shortest(self.code, self.line.turn_at(i + 1)) {
+                return Err(NoFit::Turn {
+                    peg: peg.number,
+                    clause: none.clause.number,
+                });
+            }
         }
+        Ok(())
     }
-    Ok(())
-}
 
-// Writes the best lengths and tells their total, or why there are none.
-fn find<C: RoadCode>(
-    code: &C,
-    pegs: &[Standing],
-    fixed: &[Slot<FixedLevel>],
-    store: &mut [u32],
-    lengths: &mut [u32],
-) -> Result<u32, NoFit>
-    requires sound { SoundAlignment pegs.now fixed.now }
-    requires room { (401 * length pegs.now ≤ length store.old) × (length lengths.old ≡ length pegs.now) }
-    ensures found { MatchResult result (λ total. Best (verdicts (C.grade_verdict code.now) (C.curve_verdict code.now)) pegs.now fixed.now lengths.new × (total ≡ sum lengths.new)) (λ e. IsNoFit (verdicts (C.grade_verdict code.now) (C.curve_verdict code.now)) pegs.now fixed.now (length store.old) e) }
-    ensures room { (length store.new ≡ length store.old) × (length lengths.new ≡ length lengths.old) }
-{
-    check_grades(code, pegs, fixed)?;
-    check_turns(code, pegs, fixed)?;
-    match best_lengths(code, pegs, fixed, store, lengths) {
-        Ok(total) => Ok(total),
-        Err(t) => Err(NoFit::Closed {
-            peg: pegs[t].number,
-        }),
+    // Writes the best lengths and tells their total, or why there are none.
+    fn find(&self, store: &mut [u32], lengths: &mut [u32]) -> Result<u32, NoFit>
+        requires room { 401 * length self.now.line.pegs.now ≤ length store.old }
+        requires count { length lengths.old ≡ length self.now.line.pegs.now }
+        ensures found { MatchResult result (λ total. Best (verdicts C.RoadCode self.now.code.now) self.now.line.pegs.now self.now.line.fixed.now lengths.new × (total ≡ sum lengths.new)) (λ e. IsNoFit (verdicts C.RoadCode self.now.code.now) self.now.line.pegs.now self.now.line.fixed.now (length store.old) e) }
+        ensures room { length store.new ≡ length store.old }
+        ensures count { length lengths.new ≡ length lengths.old }
+    {
+        self.check_grades()?;
+        self.check_turns()?;
+        if let Some(t) = self.fill_rows(store) {
+            let peg = self.line.pegs[t].number;
+            return Err(NoFit::Closed { peg });
+        }
+        self.walk(store, lengths);
+        Ok(store[0])
     }
 }
 
@@ -132,33 +114,16 @@ fn lay<C: RoadCode>(
     lengths: &mut [u32],
 ) -> Result<u32, NoFit>
     requires { (401 * length (take alignment.now.count alignment.now.pegs) ≤ length store.old) × (length lengths.old ≡ 40) }
-    ensures found { MatchResult result (λ total. Best (verdicts (C.grade_verdict code.now) (C.curve_verdict code.now)) (take alignment.now.count alignment.now.pegs) alignment.now.fixed (take alignment.now.count lengths.new) × (total ≡ sum (take alignment.now.count lengths.new))) (λ e. IsNoFit (verdicts (C.grade_verdict code.now) (C.curve_verdict code.now)) (take alignment.now.count alignment.now.pegs) alignment.now.fixed (length store.old) e) }
+    ensures found { MatchResult result (λ total. Best (verdicts C.RoadCode code.now) (take alignment.now.count alignment.now.pegs) alignment.now.fixed (take alignment.now.count lengths.new) × (total ≡ sum (take alignment.now.count lengths.new))) (λ e. IsNoFit (verdicts C.RoadCode code.now) (take alignment.now.count alignment.now.pegs) alignment.now.fixed (length store.old) e) }
     ensures room { (length store.new ≡ length store.old) × (length lengths.new ≡ 40) }
 {
-    let found = find(
-        code,
-        alignment.line(),
-        &alignment.fixed,
-        store,
-        &mut lengths[..alignment.count],
-    );
-    match found {
-        Ok(total) => Ok(total),
-        Err(reason) => Err(reason),
-    }
-}
-
-fn clear(store: &mut [u32])
-    ensures { store.new ≡ replicate (length store.old) 0 }
-{
-    for word in store.iter_mut() {
-        *word = 0;
-    }
+    let line = alignment.grade_line();
+    Judge { code, line }.find(store, &mut lengths[..alignment.count])
 }
 
 // The lengths that meet every rule with the least total, and of equal totals the first; or why there are none.
 pub fn fit<C: RoadCode>(alignment: &Alignment, code: &C, store: &mut [u32]) -> Result<Fitted, NoFit>
-    ensures answer { MatchResult result (λ f. Best (verdicts (C.grade_verdict code.now) (C.curve_verdict code.now)) (take alignment.now.count alignment.now.pegs) alignment.now.fixed (take alignment.now.count f.lengths) × (f.total ≡ sum (take alignment.now.count f.lengths)) × (f.alignment ≡ alignment.now)) (λ e. IsNoFit (verdicts (C.grade_verdict code.now) (C.curve_verdict code.now)) (take alignment.now.count alignment.now.pegs) alignment.now.fixed (length store.old) e) }
+    ensures answer { MatchResult result (λ f. Best (verdicts C.RoadCode code.now) (take alignment.now.count alignment.now.pegs) alignment.now.fixed (take alignment.now.count f.lengths) × (f.total ≡ sum (take alignment.now.count f.lengths)) × (f.alignment ≡ alignment.now)) (λ e. IsNoFit (verdicts C.RoadCode code.now) (take alignment.now.count alignment.now.pegs) alignment.now.fixed (length store.old) e) }
     ensures left { StoreLeft store.old store.new result }
 {
     if store.len() < 401 * alignment.count {
@@ -166,13 +131,11 @@ pub fn fit<C: RoadCode>(alignment: &Alignment, code: &C, store: &mut [u32]) -> R
     }
     let mut lengths = [0u32; 40];
     let found = lay(alignment, code, store, &mut lengths);
-    clear(store);
-    match found {
-        Ok(total) => Ok(Fitted {
-            alignment: *alignment,
-            lengths,
-            total,
-        }),
-        Err(reason) => Err(reason),
-    }
+    store.fill(0);
+    let total = found?;
+    Ok(Fitted {
+        alignment: *alignment,
+        lengths,
+        total,
+    })
 }

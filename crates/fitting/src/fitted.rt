@@ -2,15 +2,14 @@
 ghost use Rattle.std.specs.Prelude.{◌≡◌, ℕ, ◌+◌, ◌-◌, ◌<◌, ◌≤◌, length, take, MatchOption, ◌≢◌};
 ghost use Rattle.fitting.specs.Laid.{LaidApart, LengthTold, LevelIs, LevelTold};
 ghost use Rattle.fitting.specs.Line.{OnRoad, number as number_at};
-ghost use Rattle.fitting.specs.Ready.{SoundAlignment};
 ghost use Rattle.fitting.specs.Rules.{OnStretch, len};
 
 use crate::alignment::{Alignment, Standing};
-use crate::level::{nearest_level, stretch_at};
-use pegs::peg::FixedLevel;
-use pegs::slot::Slot;
+use crate::grade_line::GradeLine;
+use crate::level::Course;
 
 // A length in metres for each peg in force, in their order, and the total.
+// stays: room for the lengths of forty pegs, since there is no heap and the whole is copied
 #[derive(Clone, Copy)]
 pub struct Fitted {
     pub alignment: Alignment,
@@ -22,40 +21,41 @@ pub struct Fitted {
     ghost last: { len (take alignment.count lengths) (length (take alignment.count alignment.pegs) - 1) ≡ 0 },
 }
 
-// The stretch that a station belongs to: the last that starts at or before it.
-fn stretch_of(pegs: &[Standing], fixed: &[Slot<FixedLevel>], station: u32) -> usize
-    requires { (SoundAlignment pegs.now fixed.now) × (OnRoad pegs.now station) }
-    ensures { (result + 1 < length pegs.now) × (OnStretch pegs.now result station) }
-{
-    let mut at = 0;
-    for i in 1..pegs.len() - 1 {
-        if pegs[i].point.station <= station {
-            at = i;
-        }
+impl GradeLine<'_> {
+    // The stretch that a station belongs to: the last that starts at or before it.
+    fn stretch_of(&self, station: u32) -> usize
+        requires { OnRoad self.now.pegs.now station }
+        ensures there { result + 1 < length self.now.pegs.now }
+        ensures on { OnStretch self.now.pegs.now result station }
+    {
+        let inner = &self.pegs[1..self.pegs.len() - 1];
+        inner.partition_point(|peg| peg.point.station <= station)
     }
-    at
-}
 
-// The level at a station of the road.
-fn level_on(pegs: &[Standing], fixed: &[Slot<FixedLevel>], lengths: &[u32], station: u32) -> u32
-    requires sound { (SoundAlignment pegs.now fixed.now) × (OnRoad pegs.now station) }
-    requires laid { (length lengths.now ≡ length pegs.now) × ((LaidApart pegs.now lengths.now) × ((len lengths.now 0 ≡ 0) × (len lengths.now (length pegs.now - 1) ≡ 0))) }
-    ensures { LevelIs pegs.now lengths.now station result }
-{
-    let i = stretch_of(pegs, fixed, station);
-    nearest_level(stretch_at(pegs, i), lengths[i], lengths[i + 1], station)
+    // The level at a station of the road.
+    fn level_on(&self, lengths: &[u32], station: u32) -> u32
+        requires road { OnRoad self.now.pegs.now station }
+        requires count { length lengths.now ≡ length self.now.pegs.now }
+        requires apart { LaidApart self.now.pegs.now lengths.now }
+        requires first { len lengths.now 0 ≡ 0 }
+        requires last { len lengths.now (length self.now.pegs.now - 1) ≡ 0 }
+        ensures { LevelIs self.now.pegs.now lengths.now station result }
+    {
+        let i = self.stretch_of(station);
+        Course {
+            stretch: self.stretch_at(i),
+            left: lengths[i],
+            right: lengths[i + 1],
+        }
+        .nearest_level(station)
+    }
 }
 
 // The place of the peg with this number.
 fn place_of(pegs: &[Standing], number: u32) -> Option<usize>
     ensures { MatchOption result ((i : ℕ) → i < length pegs.now → number_at pegs.now i ≢ number) (λ i. (i < length pegs.now) × (number_at pegs.now i ≡ number)) }
 {
-    for i in 0..pegs.len() {
-        if pegs[i].number == number {
-            return Some(i);
-        }
-    }
-    None
+    pegs.iter().position(|peg| peg.number == number)
 }
 
 impl Fitted {
@@ -70,25 +70,19 @@ impl Fitted {
     pub fn level(&self, station: u32) -> Option<u32>
         ensures { LevelTold (take self.now.alignment.count self.now.alignment.pegs) (take self.now.alignment.count self.now.lengths) station result }
     {
-        let pegs = self.alignment.line();
+        let line = self.alignment.grade_line();
+        let pegs = line.pegs;
         if station < pegs[0].point.station || station > pegs[pegs.len() - 1].point.station {
             return None;
         }
-        Some(level_on(
-            pegs,
-            &self.alignment.fixed,
-            &self.lengths[..self.alignment.count],
-            station,
-        ))
+        let lengths = &self.lengths[..self.alignment.count];
+        Some(line.level_on(lengths, station))
     }
 
     // The length of a peg's curve; none where the peg is absent.
     pub fn length(&self, peg: u32) -> Option<u32>
         ensures { LengthTold (take self.now.alignment.count self.now.alignment.pegs) (take self.now.alignment.count self.now.lengths) peg result }
     {
-        match place_of(self.alignment.line(), peg) {
-            Some(i) => Some(self.lengths[i]),
-            None => None,
-        }
+        place_of(self.alignment.line(), peg).map(|i| self.lengths[i])
     }
 }

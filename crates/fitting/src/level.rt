@@ -1,10 +1,9 @@
 // Exact levels on a stretch of road, in whole numbers.
-ghost use Rattle.std.specs.Prelude.{◌≡◌, ◌+◌, ◌*◌, ◌<◌, ◌≤◌, length, Decides};
+ghost use Rattle.std.specs.Prelude.{◌≡◌, ◌+◌, ◌*◌, ◌<◌, ◌≤◌, Decides};
 ghost use Rattle.rules.specs.Points.{run};
-ghost use Rattle.fitting.specs.Levels.{AtLeast, AtMost, Nearest, level_at, stretch};
+ghost use Rattle.fitting.specs.Levels.{AtLeast, AtMost, Nearest, level_at};
 ghost use Rattle.fitting.specs.Stretches.{Inside, Lengths, Room, Sound, Stands};
 
-use crate::alignment::Standing;
 use pegs::peg::FixedLevel;
 use rules::point::Point;
 
@@ -66,86 +65,74 @@ fn curved(on: u64, gap: u64, other: u64, metres: u64, past: u64, pull: Pull) -> 
     }
 }
 
-// The level at the station s, with the lengths of the curves at both ends.
-fn exact_at(t: Stretch, left: u32, right: u32, s: u32) -> Exact
-    requires sound { Sound t }
-    requires lengths { Lengths t left right }
-    requires inside { Inside t s }
-    ensures stands { Stands (level_at t left right s) result }
-    ensures between { Room t left right → (result.down ≤ result.up) × (result.up ≤ 9000000 * result.den + result.down) }
-    ensures small { (result.down ≤ 720000000000000000) × (result.den ≤ 1600000000000) }
-{
-    let gap = (t.to.station - t.from.station) as u64;
-    let along = (s - t.from.station) as u64;
-    let rest = (t.to.station - s) as u64;
-    let on = t.from.level as u64 * rest + t.to.level as u64 * along;
-    let l = left as u64;
-    let r = right as u64;
-    if 2 * along < l {
-        let other = (t.from.station - t.before.station) as u64;
-        let pull = pull_of(t.before, t.from, t.to);
-        return curved(on, gap, other, l, l - 2 * along, pull);
-    }
-    if 2 * rest < r {
-        let other = (t.after.station - t.to.station) as u64;
-        let pull = pull_of(t.from, t.to, t.after);
-        return curved(on, gap, other, r, r - 2 * rest, pull);
-    }
-    Exact {
-        up: on,
-        down: 0,
-        den: gap,
-    }
+// A stretch, and the lengths of the curves at its two ends.
+#[derive(Clone, Copy)]
+pub(crate) struct Course {
+    pub stretch: Stretch,
+    pub left: u32,
+    pub right: u32,
+    ghost sound: { Sound stretch },
+    ghost lengths: { Lengths stretch left right },
 }
 
-// Whether the level at a fixed level's station is from its low to its high.
-pub(crate) fn keeps(t: Stretch, left: u32, right: u32, fixed: FixedLevel) -> bool
-    requires sound { Sound t }
-    requires lengths { Lengths t left right }
-    requires inside { (Inside t fixed.station) × ((fixed.low ≤ 9000000) × (fixed.high ≤ 9000000)) }
-    ensures { Decides result (AtLeast fixed.low (level_at t left right fixed.station) × AtMost fixed.high (level_at t left right fixed.station)) }
-{
-    let e = exact_at(t, left, right, fixed.station);
-    let low = fixed.low as u64 * e.den + e.down;
-    let high = fixed.high as u64 * e.den + e.down;
-    low <= e.up && e.up <= high
-}
-
-// The level to the nearest millimetre, a half going up.
-pub(crate) fn nearest_level(t: Stretch, left: u32, right: u32, s: u32) -> u32
-    requires sound { Sound t }
-    requires lengths { Lengths t left right }
-    requires room { Room t left right }
-    requires inside { Inside t s }
-    ensures nearest { Nearest (level_at t left right s) result }
-    ensures most { result ≤ 9000000 }
-    ensures range { (AtLeast 0 (level_at t left right s)) × (AtMost 9000000 (level_at t left right s)) }
-{
-    let e = exact_at(t, left, right, s);
-    let num = e.up - e.down;
-    let whole = num / e.den;
-    if 2 * (num % e.den) < e.den {
-        whole as u32
-    } else {
-        (whole + 1) as u32
+impl Course {
+    // The level at the station s.
+    fn exact_at(self, s: u32) -> Exact
+        requires { Inside self.stretch s }
+        ensures stands { Stands (level_at self.stretch self.left self.right s) result }
+        ensures between { Room self.stretch self.left self.right → (result.down ≤ result.up) × (result.up ≤ 9000000 * result.den + result.down) }
+        ensures small { (result.down ≤ 720000000000000000) × (result.den ≤ 1600000000000) }
+    {
+        let t = self.stretch;
+        let gap = (t.to.station - t.from.station) as u64;
+        let along = (s - t.from.station) as u64;
+        let rest = (t.to.station - s) as u64;
+        let on = t.from.level as u64 * rest + t.to.level as u64 * along;
+        let l = self.left as u64;
+        let r = self.right as u64;
+        if 2 * along < l {
+            let other = (t.from.station - t.before.station) as u64;
+            let pull = pull_of(t.before, t.from, t.to);
+            return curved(on, gap, other, l, l - 2 * along, pull);
+        }
+        if 2 * rest < r {
+            let other = (t.after.station - t.to.station) as u64;
+            let pull = pull_of(t.from, t.to, t.after);
+            return curved(on, gap, other, r, r - 2 * rest, pull);
+        }
+        Exact {
+            up: on,
+            down: 0,
+            den: gap,
+        }
     }
-}
 
-// The stretch from the i-th peg to the next.
-pub(crate) fn stretch_at(pegs: &[Standing], i: usize) -> Stretch
-    requires { i + 1 < length pegs.now }
-    ensures { result ≡ stretch pegs.now i }
-{
-    let before = if i == 0 { pegs[0] } else { pegs[i - 1] };
-    let after = if i + 2 < pegs.len() {
-        pegs[i + 2]
-    } else {
-        pegs[i + 1]
-    };
-    Stretch {
-        before: before.point,
-        from: pegs[i].point,
-        to: pegs[i + 1].point,
-        after: after.point,
+    // Whether the level at a fixed level's station is from its low to its high.
+    pub(crate) fn keeps(self, fixed: FixedLevel) -> bool
+        requires { (Inside self.stretch fixed.station) × ((fixed.low ≤ 9000000) × (fixed.high ≤ 9000000)) }
+        ensures { Decides result (AtLeast fixed.low (level_at self.stretch self.left self.right fixed.station) × AtMost fixed.high (level_at self.stretch self.left self.right fixed.station)) }
+    {
+        let e = self.exact_at(fixed.station);
+        let low = fixed.low as u64 * e.den + e.down;
+        let high = fixed.high as u64 * e.den + e.down;
+        low <= e.up && e.up <= high
+    }
+
+    // The level to the nearest millimetre, a half going up.
+    pub(crate) fn nearest_level(self, s: u32) -> u32
+        requires room { Room self.stretch self.left self.right }
+        requires inside { Inside self.stretch s }
+        ensures nearest { Nearest (level_at self.stretch self.left self.right s) result }
+        ensures most { result ≤ 9000000 }
+        ensures range { (AtLeast 0 (level_at self.stretch self.left self.right s)) × (AtMost 9000000 (level_at self.stretch self.left self.right s)) }
+    {
+        let e = self.exact_at(s);
+        let num = e.up - e.down;
+        let whole = num / e.den;
+        if 2 * (num % e.den) < e.den {
+            whole as u32
+        } else {
+            (whole + 1) as u32
+        }
     }
 }

@@ -5,6 +5,8 @@ pub mod alignment;
 pub mod examine;
 pub mod fit;
 pub mod fitted;
+mod grade_line;
+mod judge;
 mod level;
 pub mod ready;
 mod rows;

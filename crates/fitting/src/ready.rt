@@ -1,10 +1,11 @@
 // The alignment of a profile: its pegs in force, or why it is not ready.
-ghost use Rattle.std.specs.Prelude.{◌≡◌, ◌+◌, ◌<◌, ◌≤◌, [], ◌++◌, length, take, Some, Decides, MatchResult};
+ghost use Rattle.std.specs.Prelude.{◌≡◌, ◌+◌, ◌<◌, ◌≤◌, [], ◌++◌, length, take, Some, Decides, MatchOption, MatchResult};
 ghost use Rattle.pegs.specs.declared.peg.FixedLevel.{FixedLevel};
 ghost use Rattle.fitting.specs.Line.{OnRoad, Rising};
 ghost use Rattle.fitting.specs.Ready.{FixedOn, IsNotReady, NotRisingAt, OffRoadAt, Ready, SoundAlignment, in_force, not_ready_number, then_standing};
 
 use crate::alignment::{Alignment, InRange, Standing};
+use crate::grade_line::GradeLine;
 use pegs::peg::{FixedLevel, Peg};
 use pegs::slot::Slot;
 use rules::point::Point;
@@ -70,34 +71,29 @@ fn add(number: u32, held: Option<Peg>, pegs: &mut [Standing], at: usize) -> usiz
 }
 
 // Writes the pegs that slots hold at the front of `pegs`, in the order of their numbers, and tells how many.
+// stays: they are gathered in the room of an alignment, since there is no heap
 fn collect(slots: &[Slot<Peg>], pegs: &mut [Standing]) -> usize
     requires { (length slots.now ≡ 40) × (length pegs.old ≡ 40) }
     ensures line { take result pegs.new ≡ in_force slots.now }
     ensures most { (result ≤ 40) × (length pegs.new ≡ 40) }
 {
     let mut count = 0;
-    for n in 0..40usize {
-        count = add(n as u32, slots[n].held, pegs, count);
+    for (n, slot) in slots.iter().enumerate() {
+        count = add(n as u32, slot.held, pegs, count);
     }
     count
 }
 
 // The first peg from which the station doesn't rise by 10 m.
-fn check_rising(pegs: &[Standing]) -> Result<(), usize>
+fn first_not_rising(pegs: &[Standing]) -> Option<usize>
     requires { 2 ≤ length pegs.now }
-    ensures { MatchResult result (λ _. Rising pegs.now) (λ i. NotRisingAt pegs.now i) }
+    ensures { MatchOption result (Rising pegs.now) (λ i. NotRisingAt pegs.now i) }
 {
-    for i in 0..pegs.len() - 1 {
-        if pegs[i + 1]
-            .point
-            .station
-            .saturating_sub(pegs[i].point.station)
-            < 10
-        {
-            return Err(i);
-        }
-    }
-    Ok(())
+    pegs.iter().zip(&pegs[1..]).position(|(from, to)| to
+        .point
+        .station
+        .saturating_sub(from.point.station)
+        < 10)
 }
 
 // Whether a fixed level, if there is one, lies between two stations.
@@ -111,18 +107,15 @@ fn lies_between(held: Option<FixedLevel>, first: u32, last: u32) -> bool
 }
 
 // The first fixed level that lies off the road.
-fn check_fixed(pegs: &[Standing], fixed: &[Slot<FixedLevel>]) -> Result<(), usize>
+fn first_off(pegs: &[Standing], fixed: &[Slot<FixedLevel>]) -> Option<usize>
     requires { (2 ≤ length pegs.now) × (length fixed.now ≡ 16) }
-    ensures { MatchResult result (λ _. FixedOn pegs.now fixed.now) (λ n. (n ≤ 15) × OffRoadAt pegs.now fixed.now n) }
+    ensures { MatchOption result (FixedOn pegs.now fixed.now) (λ n. (n ≤ 15) × OffRoadAt pegs.now fixed.now n) }
 {
     let first = pegs[0].point.station;
     let last = pegs[pegs.len() - 1].point.station;
-    for n in 0..16usize {
-        if !lies_between(fixed[n].held, first, last) {
-            return Err(n);
-        }
-    }
-    Ok(())
+    fixed
+        .iter()
+        .position(|slot| !lies_between(slot.held, first, last))
 }
 
 // Whether pegs and fixed levels are ready, or the first reason against it.
@@ -133,18 +126,15 @@ fn check(pegs: &[Standing], fixed: &[Slot<FixedLevel>]) -> Result<(), NotReady>
     if pegs.len() < 2 {
         return Err(NotReady::TooFewPegs);
     }
-    match check_rising(pegs) {
-        Ok(()) => {}
-        Err(i) => {
-            return Err(NotReady::StationsNotRising {
-                peg: pegs[i].number,
-            });
-        }
+    if let Some(i) = first_not_rising(pegs) {
+        return Err(NotReady::StationsNotRising {
+            peg: pegs[i].number,
+        });
     }
-    match check_fixed(pegs, fixed) {
-        Ok(()) => Ok(()),
-        Err(n) => Err(NotReady::FixedLevelOff { number: n as u32 }),
+    if let Some(n) = first_off(pegs, fixed) {
+        return Err(NotReady::FixedLevelOff { number: n as u32 });
     }
+    Ok(())
 }
 
 impl Alignment {
@@ -171,5 +161,14 @@ impl Alignment {
         ensures sound { SoundAlignment result.now self.now.fixed }
     {
         &self.pegs[..self.count]
+    }
+    // The same, with the fixed levels on it.
+    pub(crate) fn grade_line(&self) -> GradeLine<'_>
+        ensures { (result.pegs.now ≡ take self.now.count self.now.pegs) × (result.fixed.now ≡ self.now.fixed) }
+    {
+        GradeLine {
+            pegs: self.line(),
+            fixed: &self.fixed,
+        }
     }
 }

@@ -1,113 +1,117 @@
 // The rows of least totals, filled from the last peg back.
-ghost use Rattle.std.specs.Prelude.{◌≡◌, ℕ, ◌+◌, ◌*◌, ◌<◌, ◌≤◌, length, MatchBool, MatchResult};
-ghost use Rattle.fitting.specs.Ready.{SoundAlignment};
-ghost use Rattle.fitting.specs.Rows.{LeastFrom, RowsFrom, none};
-ghost use Rattle.fitting.specs.Rules.{LastClosed, verdicts};
-ghost use Rattle.fitting.specs.Walked.{AllGrades, EndsFlat, LeastJoined, RowOpen, entry};
+ghost use Rattle.std.specs.Prelude.{◌≡◌, ℕ, ◌+◌, ◌*◌, ◌<◌, ◌≤◌, length, MatchBool, MatchOption, slice_index};
+ghost use Rattle.fitting.specs.Rows.{LeastFrom, RowMeans, RowsFrom, entry, none};
+ghost use Rattle.fitting.specs.Rules.{GradesPass, LastClosed, verdicts};
+ghost use Rattle.fitting.specs.Walked.{EndsFlat, LeastJoined, RowOpen};
 
-use crate::alignment::Standing;
-use crate::rules_met::{may_join, peg_keeps};
-use pegs::peg::FixedLevel;
-use pegs::slot::Slot;
+use crate::grade_line::GradeLine;
+use crate::judge::Judge;
 use rules::code::RoadCode;
+use rules::length::Length;
 
-// The least entry of the row after peg t whose length may stand after `metres` at peg t.
-fn least_after(
-    pegs: &[Standing],
-    fixed: &[Slot<FixedLevel>],
-    store: &[u32],
-    t: usize,
-    metres: u32,
-) -> u32
-    requires sound { (SoundAlignment pegs.now fixed.now) × ((t + 1 < length pegs.now) × (length pegs.now * 401 ≤ length store.now)) }
-    requires flat { EndsFlat pegs.now store.now (t + 1) }
-    requires metres { (metres ≤ 2000) × ((t ≡ 0 → metres ≡ 0)) }
-    ensures { LeastJoined pegs.now fixed.now store.now t metres 401 result }
+// The row of peg t.
+pub(crate) fn row(store: &[u32], t: usize) -> &[u32]
+    requires { (t + 1) * 401 ≤ length store.now }
+    ensures count { length result.now ≡ 401 }
+    ensures entries { (k : ℕ) → k < 401 → slice_index result.now k ≡ entry store.now t k }
 {
-    let mut low = u32::MAX;
-    for j in 0..401u32 {
-        let total = store[(t + 1) * 401 + j as usize];
-        if total < low && may_join(pegs, fixed, t, metres, 5 * j) {
-            low = total;
+    &store[t * 401..(t + 1) * 401]
+}
+
+impl GradeLine<'_> {
+    // The least entry of `next`, the row after peg t, whose length may stand after `left` at peg t.
+    // stays: it is told as the words of the lent store are, where u32::MAX stands for no total
+    fn least_after(&self, next: &[u32], t: usize, left: Length) -> u32
+        requires next { t + 1 < length self.now.pegs.now }
+        requires count { length next.now ≡ 401 }
+        requires flat { EndsFlat self.now.pegs.now (slice_index next.now) (t + 1) }
+        requires first { t ≡ 0 → left.metres ≡ 0 }
+        ensures { LeastJoined self.now.pegs.now self.now.fixed.now (slice_index next.now) t left.metres 401 result }
+    {
+        let mut low = u32::MAX;
+        for (j, total) in next.iter().enumerate() {
+            let right = Length {
+                metres: 5 * j as u32,
+            };
+            if *total < low && self.may_join(t, left, right) {
+                low = *total;
+            }
+        }
+        low
+    }
+}
+
+impl<C: RoadCode> Judge<'_, C> {
+    // The least total from peg t on where t has the length 5 k; `after` begins with the row after, where there is one.
+    // stays: it is a word of the lent store, where u32::MAX stands for no total
+    fn entry_of(&self, after: &[u32], t: usize, k: u32) -> u32
+        requires there { t < length self.now.line.pegs.now }
+        requires step { k < 401 }
+        requires grades { GradesPass (verdicts C.RoadCode self.now.code.now) self.now.line.pegs.now }
+        requires after { t + 1 < length self.now.line.pegs.now → (401 ≤ length after.now) × RowMeans (verdicts C.RoadCode self.now.code.now) self.now.line.pegs.now self.now.line.fixed.now (slice_index after.now) (t + 1) }
+        ensures { LeastFrom (verdicts C.RoadCode self.now.code.now) self.now.line.pegs.now self.now.line.fixed.now t k result }
+    {
+        let own = Length { metres: 5 * k };
+        if !self.peg_keeps(t, own) {
+            return u32::MAX;
+        }
+        if t + 1 == self.line.pegs.len() {
+            return own.metres;
+        }
+        self.line
+            .least_after(&after[..401], t, own)
+            .saturating_add(own.metres)
+    }
+
+    // Writes the row of peg t; `after` begins with the row after, where there is one.
+    fn write_row(&self, row: &mut [u32], after: &[u32], t: usize)
+        requires there { t < length self.now.line.pegs.now }
+        requires count { length row.old ≡ 401 }
+        requires grades { GradesPass (verdicts C.RoadCode self.now.code.now) self.now.line.pegs.now }
+        requires after { t + 1 < length self.now.line.pegs.now → (401 ≤ length after.now) × RowMeans (verdicts C.RoadCode self.now.code.now) self.now.line.pegs.now self.now.line.fixed.now (slice_index after.now) (t + 1) }
+        ensures written { RowMeans (verdicts C.RoadCode self.now.code.now) self.now.line.pegs.now self.now.line.fixed.now (slice_index row.new) t }
+        ensures count { length row.new ≡ 401 }
+    {
+        for (k, word) in row.iter_mut().enumerate() {
+            *word = self.entry_of(after, t, k as u32);
         }
     }
-    low
-}
 
-// The least total from peg t on where t has the length 5 k, by the row after.
-fn entry_of<C: RoadCode>(
-    code: &C,
-    pegs: &[Standing],
-    fixed: &[Slot<FixedLevel>],
-    store: &[u32],
-    t: usize,
-    k: u32,
-) -> u32
-    requires sound { (SoundAlignment pegs.now fixed.now) × ((t < length pegs.now) × ((k < 401) × (length pegs.now * 401 ≤ length store.now))) }
-    requires grades { AllGrades (verdicts (C.grade_verdict code.now) (C.curve_verdict code.now)) pegs.now }
-    requires after { RowsFrom (verdicts (C.grade_verdict code.now) (C.curve_verdict code.now)) pegs.now fixed.now store.now (t + 1) }
-    ensures { LeastFrom (verdicts (C.grade_verdict code.now) (C.curve_verdict code.now)) pegs.now fixed.now t k result }
-{
-    let metres = 5 * k;
-    if !peg_keeps(code, pegs, fixed, t, metres) {
-        return u32::MAX;
+    // Fills the row of peg t from the row after.
+    fn fill_row(&self, store: &mut [u32], t: usize)
+        requires there { t < length self.now.line.pegs.now }
+        requires room { length self.now.line.pegs.now * 401 ≤ length store.old }
+        requires grades { GradesPass (verdicts C.RoadCode self.now.code.now) self.now.line.pegs.now }
+        requires after { RowsFrom (verdicts C.RoadCode self.now.code.now) self.now.line.pegs.now self.now.line.fixed.now store.old (t + 1) }
+        ensures filled { RowsFrom (verdicts C.RoadCode self.now.code.now) self.now.line.pegs.now self.now.line.fixed.now store.new t }
+        ensures room { length store.new ≡ length store.old }
+    {
+        let (before, after) = store.split_at_mut((t + 1) * 401);
+        self.write_row(&mut before[t * 401..], after, t);
     }
-    if t + 1 == pegs.len() {
-        return metres;
-    }
-    least_after(pegs, fixed, store, t, metres).saturating_add(metres)
-}
 
-// Fills the row of peg t from the row after.
-pub(crate) fn fill_row<C: RoadCode>(
-    code: &C,
-    pegs: &[Standing],
-    fixed: &[Slot<FixedLevel>],
-    store: &mut [u32],
-    t: usize,
-)
-    requires sound { (SoundAlignment pegs.now fixed.now) × ((t < length pegs.now) × (length pegs.now * 401 ≤ length store.old)) }
-    requires grades { AllGrades (verdicts (C.grade_verdict code.now) (C.curve_verdict code.now)) pegs.now }
-    requires after { RowsFrom (verdicts (C.grade_verdict code.now) (C.curve_verdict code.now)) pegs.now fixed.now store.old (t + 1) }
-    ensures filled { RowsFrom (verdicts (C.grade_verdict code.now) (C.curve_verdict code.now)) pegs.now fixed.now store.new t }
-    ensures room { length store.new ≡ length store.old }
-{
-    for k in 0..401u32 {
-        let least = entry_of(code, pegs, fixed, store, t, k);
-        store[t * 401 + k as usize] = least;
+    // Fills the rows from the last peg back, up to the first of them that is closed.
+    pub(crate) fn fill_rows(&self, store: &mut [u32]) -> Option<usize>
+        requires room { length self.now.line.pegs.now * 401 ≤ length store.old }
+        requires grades { GradesPass (verdicts C.RoadCode self.now.code.now) self.now.line.pegs.now }
+        ensures filled { MatchOption result (RowsFrom (verdicts C.RoadCode self.now.code.now) self.now.line.pegs.now self.now.line.fixed.now store.new 0 × (entry store.new 0 0 < none)) (λ t. LastClosed (verdicts C.RoadCode self.now.code.now) self.now.line.pegs.now self.now.line.fixed.now t) }
+        ensures room { length store.new ≡ length store.old }
+    {
+        // stays: a row is filled from the row after it, so the rows are not lent one by one
+        for t in (0..self.line.pegs.len()).rev() {
+            self.fill_row(store, t);
+            if is_closed(store, t) {
+                return Some(t);
+            }
+        }
+        None
     }
 }
 
 // Whether no length of peg t has a total.
 fn is_closed(store: &[u32], t: usize) -> bool
     requires { (t + 1) * 401 ≤ length store.now }
-    ensures { MatchBool result ((k : ℕ) → k < 401 → entry store.now t k ≡ none) (RowOpen store.now t) }
+    ensures { MatchBool result ((k : ℕ) → k < 401 → entry store.now t k ≡ none) (RowOpen (entry store.now t)) }
 {
-    for k in 0..401u32 {
-        if store[t * 401 + k as usize] < u32::MAX {
-            return false;
-        }
-    }
-    true
-}
-
-// Fills the rows from the last peg back, up to the first of them that is closed.
-pub(crate) fn fill_rows<C: RoadCode>(
-    code: &C,
-    pegs: &[Standing],
-    fixed: &[Slot<FixedLevel>],
-    store: &mut [u32],
-) -> Result<(), usize>
-    requires sound { (SoundAlignment pegs.now fixed.now) × (length pegs.now * 401 ≤ length store.old) }
-    requires grades { AllGrades (verdicts (C.grade_verdict code.now) (C.curve_verdict code.now)) pegs.now }
-    ensures filled { MatchResult result (λ _. RowsFrom (verdicts (C.grade_verdict code.now) (C.curve_verdict code.now)) pegs.now fixed.now store.new 0 × (entry store.new 0 0 < none)) (λ t. LastClosed (verdicts (C.grade_verdict code.now) (C.curve_verdict code.now)) pegs.now fixed.now t) }
-    ensures room { length store.new ≡ length store.old }
-{
-    for t in (0..pegs.len()).rev() {
-        fill_row(code, pegs, fixed, store, t);
-        if is_closed(store, t) {
-            return Err(t);
-        }
-    }
-    Ok(())
+    row(store, t).iter().all(|total| *total == u32::MAX)
 }
