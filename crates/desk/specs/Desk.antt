@@ -1,5 +1,5 @@
 -- What a call does to the desk of a job, and what it answers. Assumes nothing.
-use Rattle.std.specs.Prelude.{◌≡◌, ℕ, ◌%◌, ◌<◌, ◌≤◌, ◌⊎◌, List, [], ◌∷◌, ◌++◌, length, ℤ, Some, None, Ok, Err, vec_items, Result, Vec, MatchOption, MatchResult}
+use Rattle.std.specs.Prelude.{◌≡◌, ℕ, ◌%◌, ◌<◌, ◌≤◌, ◌⊎◌, List, [], ◌∷◌, ◌++◌, length, ℤ, Some, None, Ok, Err, vec_items, Result, Vec, MatchOption, MatchResult, ⊤}
 use Rattle.std.specs.declared.alloc.Global.{Global}
 use Rattle.pegs.specs.Tables.{fixed_slot, peg_slot}
 use Rattle.pegs.specs.declared.edit.Edit.{Edit}
@@ -18,6 +18,7 @@ use Rattle.rules.specs.Shortest.{NonePasses, ShortestPassing}
 use Rattle.rules.specs.Speeds.{asked, design_speed}
 use Rattle.rules.specs.Stricter.{stricter_of}
 use Rattle.rules.specs.Tables.{Lawful, TableRefused, table_curve, table_grade}
+use Rattle.rules.specs.Told.{Told}
 use Rattle.rules.specs.Turns.{bend_of}
 use Rattle.rules.specs.declared.irc.Irc.{Irc}
 use Rattle.rules.specs.declared.point.Point.{Point}
@@ -45,16 +46,23 @@ use Rattle.desk.specs.declared.answer.Missing.TheVariants as missing
 abbrev pub CurveRefused : List Point → ℕ → Refusal → Type 0
 CurveRefused ps l e = PointsRefused ps e ⊎ (PointsSound ps × (e ≡ LengthOutOfStep) × (l % 5 ≡ 0 → l ≤ 2000 → ⊥))
 
+-- a verdict, and the code that it is by
+abbrev pub VerdictTold : ℕ → Choice → Answer → Type 0
+VerdictTold verdict by (answer.Verdict v c) = Told verdict v × (c ≡ by)
+VerdictTold verdict by _ = ⊥
+
 -- the shortest length that passes, or that none does
 abbrev pub ShortestTold : (ℕ → ℕ) → Answer → Type 0
-ShortestTold verdict a = ((l : ℕ) × (a ≡ answer.Shortest l) × ShortestPassing verdict l) ⊎ ((a ≡ answer.NoLength (verdict 2000)) × NonePasses verdict)
+ShortestTold verdict (answer.Shortest (Ok l)) = ShortestPassing verdict l.metres
+ShortestTold verdict (answer.Shortest (Err none)) = NonePasses verdict × (none.clause.number ≡ verdict 2000)
+ShortestTold verdict _ = ⊥
 
 -- what a code with these verdicts answers to an inquiry
 abbrev pub Answers : (grade : ℤ → ℕ → ℕ) (curve : Bend → ℕ → ℕ) → Choice → Inquiry → Result Answer Refusal → Type 0
 Answers grade curve by (inquiry.Grade p q) r =
-    MatchResult r (λ a. PointsSound (p ∷ (q ∷ [])) × (a ≡ answer.Verdict (grade (rise p q) (run p q)) by)) (λ e. PointsRefused (p ∷ (q ∷ [])) e)
+    MatchResult r (λ a. PointsSound (p ∷ (q ∷ [])) × VerdictTold (grade (rise p q) (run p q)) by a) (λ e. PointsRefused (p ∷ (q ∷ [])) e)
 Answers grade curve by (inquiry.Curve p q s l) r =
-    MatchResult r (λ a. PointsSound (p ∷ (q ∷ (s ∷ []))) × (a ≡ answer.Verdict (curve (bend_of p q s) l) by)) (λ e. CurveRefused (p ∷ (q ∷ (s ∷ []))) l e)
+    MatchResult r (λ a. PointsSound (p ∷ (q ∷ (s ∷ []))) × VerdictTold (curve (bend_of p q s) l) by a) (λ e. CurveRefused (p ∷ (q ∷ (s ∷ []))) l e)
 Answers grade curve by (inquiry.Shortest p q s) r =
     MatchResult r (λ a. PointsSound (p ∷ (q ∷ (s ∷ []))) × ShortestTold (curve (bend_of p q s)) a) (λ e. PointsRefused (p ∷ (q ∷ (s ∷ []))) e)
 
@@ -160,16 +168,11 @@ stands_of (edit.Lift n s) t = stands.Peg n (peg_slot t n).held
 stands_of (edit.Fix n s st l h) t = stands.Fixed n (fixed_slot t n).held
 stands_of (edit.Clear n s) t = stands.Fixed n (fixed_slot t n).held
 
--- the edit was taken or refused, and what stands now
-abbrev pub edit_answer : Result (Unit {0}) EditRefusal → Stands → Answer
-edit_answer (Ok u) s = answer.Edited s
-edit_answer (Err x) s = answer.EditRefused x s
-
--- the profile moves by the edit, and all else stays
+-- the profile moves by the edit, taken or refused, and all else stays
 pub record EditMade (d : Desk) (e : Edit) (d' : Desk) (a : Answer) : Type 0 where
   pub reply : Result (Unit {0}) EditRefusal
   pub profile : Applied e d.profile d'.profile reply
-  pub told : a ≡ edit_answer reply (stands_of e d'.profile.tables)
+  pub told : a ≡ answer.Edited reply (stands_of e d'.profile.tables)
   pub irc : d'.irc ≡ d.irc
   pub rows : d'.rows ≡ d.rows
   pub table : d'.table ≡ d.table
@@ -177,20 +180,15 @@ pub record EditMade (d : Desk) (e : Edit) (d' : Desk) (a : Answer) : Type 0 wher
 
 -- the bytes of the book, where the buffer is long enough for them
 abbrev pub BookTold : Tables → ℕ → Answer → Type 0
-BookTold t size a =
-    ((v : Vec ℕ Global) × (a ≡ answer.Book v) × (vec_items v ≡ encode t) × (length (encode t) ≤ size))
-    ⊎ ((short : TooShort) × (a ≡ answer.BookTooShort short) × (size < length (encode t)))
+BookTold t size (answer.Book (Ok v)) = (vec_items v ≡ encode t) × (length (encode t) ≤ size)
+BookTold t size (answer.Book (Err _)) = size < length (encode t)
+BookTold t size _ = ⊥
 
--- a book was accepted, or its first fault is told
-abbrev pub read_answer : Result (Unit {0}) BookFault → Answer
-read_answer (Ok u) = answer.BookRead
-read_answer (Err x) = answer.BookRefused x
-
--- the profile moves by the book, and all else stays
+-- the profile moves by the book, accepted or refused, and all else stays
 pub record ReadMade (d : Desk) (bytes : List ℕ) (d' : Desk) (a : Answer) : Type 0 where
   pub reply : Result (Unit {0}) BookFault
   pub profile : BookRead bytes d.profile d'.profile reply
-  pub told : a ≡ read_answer reply
+  pub told : a ≡ answer.BookRead reply
   pub irc : d'.irc ≡ d.irc
   pub rows : d'.rows ≡ d.rows
   pub table : d'.table ≡ d.table

@@ -3,6 +3,7 @@ use pegs::edit::Edit;
 use rules::point::Point;
 use rules::road::RoadFigures;
 use rules::table::Row;
+use std::fmt;
 
 // Which code judges: one alone, or the stricter of two in this order.
 #[derive(Clone, Copy)]
@@ -11,6 +12,17 @@ pub enum Choice {
     Table,
     IrcThenTable,
     TableThenIrc,
+}
+
+impl fmt::Display for Choice {
+    fn fmt<W: fmt::Write>(&self, f: &mut fmt::Formatter<W>) -> fmt::Result {
+        f.write_str(match self {
+            Choice::Irc => "the IRC code",
+            Choice::Table => "the length table",
+            Choice::IrcThenTable => "the IRC code, then the length table",
+            Choice::TableThenIrc => "the length table, then the IRC code",
+        })
+    }
 }
 
 // What a code is asked.
