@@ -1,5 +1,5 @@
 -- What a call does to the desk of a job, and what it answers. Assumes nothing.
-use Rattle.std.specs.Prelude.{◌≡◌, ℕ, ◌%◌, ◌<◌, ◌≤◌, ◌⊎◌, List, [], ◌∷◌, ◌++◌, length, ℤ, Some, None, Ok, Err, vec_items, Result, Vec, MatchOption, MatchResult, ⊤}
+use Rattle.std.specs.Prelude.{◌≡◌, ℕ, ◌%◌, ◌<◌, ◌≤◌, ◌⊎◌, List, [], ◌∷◌, ◌++◌, length, ℤ, Some, None, Ok, Err, vec_items, Result, Vec, IsSomeAnd, MatchOption, MatchResult, ⊤}
 use Rattle.std.specs.declared.alloc.Global.{Global}
 use Rattle.pegs.specs.Tables.{fixed_slot, peg_slot}
 use Rattle.pegs.specs.declared.edit.Edit.{Edit}
@@ -120,9 +120,9 @@ pub record AsItWas (d d' : Desk) : Type 0 where
 
 -- a code of the standard, or the refusal and the desk as it was
 abbrev pub IrcMade : Desk → RoadFigures → Desk → Answer → Type 0
-IrcMade d f d' a =
-    ((c : Irc) × Named f c.road × (a ≡ answer.Road (asked (design_speed c.road))) × (d' ≡ record { profile = d.profile; irc = Some c; rows = d.rows; table = d.table; choice = d.choice }))
-    ⊎ ((e : Refusal) × IrcRefused f e × (a ≡ answer.Refused e) × (d' ≡ d))
+IrcMade d f d' (answer.Road s) = IsSomeAnd d'.irc (λ c. Named f c.road × (s ≡ asked (design_speed c.road))) × (d' ≡ record d { irc = d'.irc })
+IrcMade d f d' (answer.Refused e) = IrcRefused f e × (d' ≡ d)
+IrcMade d f d' _ = ⊥
 
 -- one row more
 pub record RowAdded (d : Desk) (row : Row) (d' : Desk) (a : Answer) : Type 0 where
@@ -135,10 +135,11 @@ pub record RowAdded (d : Desk) (row : Row) (d' : Desk) (a : Answer) : Type 0 whe
 
 -- a table of the rows, or the refusal and the table as it was
 abbrev pub TableOutcome : Desk → (bound clause : ℕ) → Desk → Answer → Type 0
-TableOutcome d bound clause d' a =
-    ((t : KeptTable) × Lawful (vec_items d.rows) bound clause × (d'.table ≡ Some t) × (vec_items t.rows ≡ vec_items d.rows)
-    × (t.bound ≡ bound) × (t.clause ≡ clause) × (a ≡ answer.Table (length (vec_items d.rows))))
-    ⊎ ((e : Refusal) × TableRefused (vec_items d.rows) bound clause e × (a ≡ answer.Refused e) × (d'.table ≡ d.table))
+TableOutcome d bound clause d' (answer.Table n) =
+    IsSomeAnd d'.table (λ t. Lawful (vec_items d.rows) bound clause × (vec_items t.rows ≡ vec_items d.rows) × (t.bound ≡ bound) × (t.clause ≡ clause))
+    × (n ≡ length (vec_items d.rows))
+TableOutcome d bound clause d' (answer.Refused e) = TableRefused (vec_items d.rows) bound clause e × (d'.table ≡ d.table)
+TableOutcome d bound clause d' _ = ⊥
 
 -- taken or refused, a table ends the list of rows
 pub record TableMade (d : Desk) (bound clause : ℕ) (d' : Desk) (a : Answer) : Type 0 where
@@ -157,9 +158,9 @@ There d choice.TableThenIrc r = MatchOption d.table (r ≡ Err missing.Table) (�
 
 -- a choice in use, or what is missing and the desk as it was
 abbrev pub Chosen : Desk → Choice → Desk → Answer → Type 0
-Chosen d c d' a =
-    (There d c (Ok c) × (a ≡ answer.InUse c) × (d' ≡ record { profile = d.profile; irc = d.irc; rows = d.rows; table = d.table; choice = Some c }))
-    ⊎ ((m : Missing) × There d c (Err m) × (a ≡ answer.Missing m) × (d' ≡ d))
+Chosen d c d' (answer.InUse c') = There d c (Ok c) × (c' ≡ c) × (d' ≡ record d { choice = Some c })
+Chosen d c d' (answer.Missing m) = There d c (Err m) × (d' ≡ d)
+Chosen d c d' _ = ⊥
 
 -- what stands under the number that an edit names
 abbrev pub stands_of : Edit → Tables → Stands
@@ -173,10 +174,7 @@ pub record EditMade (d : Desk) (e : Edit) (d' : Desk) (a : Answer) : Type 0 wher
   pub reply : Result (Unit {0}) EditRefusal
   pub profile : Applied e d.profile d'.profile reply
   pub told : a ≡ answer.Edited reply (stands_of e d'.profile.tables)
-  pub irc : d'.irc ≡ d.irc
-  pub rows : d'.rows ≡ d.rows
-  pub table : d'.table ≡ d.table
-  pub choice : d'.choice ≡ d.choice
+  pub rest : d' ≡ record d { profile = d'.profile }
 
 -- the bytes of the book, where the buffer is long enough for them
 abbrev pub BookTold : Tables → ℕ → Answer → Type 0
@@ -189,10 +187,7 @@ pub record ReadMade (d : Desk) (bytes : List ℕ) (d' : Desk) (a : Answer) : Typ
   pub reply : Result (Unit {0}) BookFault
   pub profile : BookRead bytes d.profile d'.profile reply
   pub told : a ≡ answer.BookRead reply
-  pub irc : d'.irc ≡ d.irc
-  pub rows : d'.rows ≡ d.rows
-  pub table : d'.table ≡ d.table
-  pub choice : d'.choice ≡ d.choice
+  pub rest : d' ≡ record d { profile = d'.profile }
 
 -- what a call does to the desk, and what it answers
 abbrev pub Made : Desk → Call → Desk → Answer → Type 0

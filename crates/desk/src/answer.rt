@@ -125,8 +125,7 @@ fn tell_edit_refused<W: fmt::Write>(
     stands: Stands,
     f: &mut fmt::Formatter<W>,
 ) -> fmt::Result {
-    let number = refusal.number();
-    write!(f, "refused {number}: {refusal}")?;
+    write!(f, "refused {}: {refusal}", refusal.number())?;
     match refusal {
         EditRefusal::SequenceLower | EditRefusal::SequenceEqual => write!(f, "; {stands}"),
         _ => Ok(()),
@@ -135,8 +134,7 @@ fn tell_edit_refused<W: fmt::Write>(
 
 // The bytes of a book in hexadecimal.
 fn tell_book<W: fmt::Write>(bytes: &[u8], f: &mut fmt::Formatter<W>) -> fmt::Result {
-    let count = bytes.len();
-    write!(f, "ok {count} ")?;
+    write!(f, "ok {} ", bytes.len())?;
     for byte in bytes {
         write!(f, "{byte:02x}")?;
     }
@@ -153,10 +151,13 @@ fn layer_words(layer: Layer) -> &'static str {
 
 // The first fault of a book, its place and its layer.
 fn tell_fault<W: fmt::Write>(fault: BookFault, f: &mut fmt::Formatter<W>) -> fmt::Result {
-    let number = fault.number();
-    let place = fault.place();
-    let layer = layer_words(fault.layer());
-    write!(f, "refused {number} byte {place} layer {layer}: {fault}")
+    write!(
+        f,
+        "refused {} byte {} layer {}: {fault}",
+        fault.number(),
+        fault.place(),
+        layer_words(fault.layer())
+    )
 }
 
 impl fmt::Display for Answer {
@@ -188,18 +189,12 @@ impl fmt::Display for Answer {
                 stands,
             } => tell_edit_refused(refusal, stands, f),
             Answer::Book(Ok(ref bytes)) => tell_book(bytes.as_slice(), f),
-            Answer::Book(Err(short)) => {
-                let number = short.number();
-                write!(f, "refused {number}: {short}")
-            }
+            Answer::Book(Err(short)) => write!(f, "refused {}: {short}", short.number()),
             Answer::BookRead(Ok(())) => f.write_str(
                 "ok: the book stands in place of all before it",
             ),
             Answer::BookRead(Err(fault)) => tell_fault(fault, f),
-            Answer::Refused(refusal) => {
-                let number = refusal.number();
-                write!(f, "refused {number}: {refusal}")
-            }
+            Answer::Refused(refusal) => write!(f, "refused {}: {refusal}", refusal.number()),
             Answer::Missing(missing) => write!(f, "not understood: {missing}"),
         }
     }

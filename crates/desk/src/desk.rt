@@ -183,6 +183,7 @@ impl Desk {
     }
 
     // The choice, if the codes that it names are there.
+    // stays: a switch beside that of `ask_by`: an enum of the codes in use that is a code itself needs three, one to make it and one for each verdict
     fn there(&self, choice: Choice) -> Result<Choice, Missing>
         ensures { There self.now choice result }
     {

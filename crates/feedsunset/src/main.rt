@@ -22,18 +22,14 @@ fn answer_all<I: BufRead + Drop>(rt: &HostRuntime, input: I) -> anyhow::Result<(
 
 // The file's job, or a word on why it can't be read.
 fn answer_file(rt: &HostRuntime, path: &str) -> anyhow::Result<()> {
-    match File::open(rt, path) {
-        Ok(file) => answer_all(rt, BufReader::new(rt.alloc(), file)?),
-        Err(error) => Err(anyhow!(format!(in rt.alloc();
-            "the job '{path}' can't be read: {error}"
-        )?)),
-    }
+    let file = File::open(rt, path).map_err(|error| anyhow!(
+        "the job '{path}' can't be read: {error}"
+    ))?;
+    answer_all(rt, BufReader::new(rt.alloc(), file)?)
 }
 
 fn run(rt: &HostRuntime) -> anyhow::Result<()> {
-    let mut args = env::args(rt)?;
-    let _program = args.next();
-    match args.next() {
+    match env::args(rt)?.nth(1) {
         Some(path) => answer_file(rt, path.as_str()),
         None => answer_all(rt, BufReader::new(rt.alloc(), rt.stdin())?),
     }

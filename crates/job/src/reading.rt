@@ -160,12 +160,10 @@ fn read_call<'a>(name: &'a str, rest: &[&'a str]) -> Result<Call, Misread<'a>> {
             let [bound, clause] = figures::<2>(rest)?;
             Ok(Call::Table { bound, clause })
         }
-        "use" => Ok(Call::Use(read_choice(rest)?)),
-        "book" => Ok(Call::Book {
-            size: read_size(rest)?,
-        }),
-        "grade" | "curve" | "shortest" => Ok(Call::Ask(read_inquiry(name, rest)?)),
-        _ => Ok(Call::Edit(read_edit(name, rest)?)),
+        "use" => read_choice(rest).map(Call::Use),
+        "book" => read_size(rest).map(|size| Call::Book { size }),
+        "grade" | "curve" | "shortest" => read_inquiry(name, rest).map(Call::Ask),
+        _ => read_edit(name, rest).map(Call::Edit),
     }
 }
 
