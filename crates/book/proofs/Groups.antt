@@ -1,9 +1,12 @@
 -- Laws of the groups of seven bits, and what a read keeps. Assumes nothing.
-use Rattle.std.proofs.Common.{◌≡◌, ℕ, zero, suc, ◌+◌, ◌-◌, ◌*◌, ◌/◌, ◌%◌, ◌^◌, ◌<◌, ◌≤◌, List, [], ◌∷◌, ◌++◌, length, get_or, take, drop, set, sym, refl, ap, ◌∙◌, ⊎_elim, append_assoc, add_assoc, mul_assoc, mul-add, add-one, arith, length-drop, pow_mono, below_more}
+use Rattle.std.proofs.Common.{◌≡◌, ℕ, zero, suc, ◌+◌, ◌-◌, ◌*◌, ◌/◌, ◌%◌, ◌^◌, ◌<◌, ◌≤◌, List, [], ◌∷◌, ◌++◌, length, get_or, take, drop, set, sym, refl, ap, ◌∙◌, ⊎_elim, append_assoc, add_assoc, mul_assoc, mul-add, add-one, arith, length-drop, length-take, min, pow_mono, below_more}
 use Rattle.std.proofs.lemmas.Bool.{lt-ltb, le-ltb, cases_lt}
 use Rattle.std.proofs.lemmas.Nat.{mul-le, pow-add, div_below}
-use Rattle.std.proofs.lemmas.List.{take_more, take-append-drop, drop-drop, get_or-drop, length-take-le, take_more_set, drop-set-lt, set_split, length-set}
-use Rattle.book.specs.Numbers.{groups, number, put, Stands, Tops}
+use Rattle.std.proofs.lemmas.List.{take_more, take-append-drop, drop-drop, get_or-drop, get_or-take, length-take-le, set_split}
+use Rattle.book.specs.Numbers.{groups, number, over, put, Stands, Tops}
+use Rattle.book.specs.Book.{written}
+use Rattle.book.proofs.Writes.{Leads, length_none, length-written, put_step}
+use Rattle.book.proofs.Writes as Writes
 
 pub one : (f n : ℕ) → n < 128 → groups (suc f) n ≡ n ∷ []
 unfolding groups
@@ -12,6 +15,16 @@ one f n h = rw (lt-ltb n 128 h) refl
 pub more : (f n : ℕ) → 128 ≤ n → groups (suc f) n ≡ (128 + n % 128) ∷ groups f (n / 128)
 unfolding groups
 more f n h = rw (le-ltb n 128 h) refl
+
+-- numbers take five bytes each at most
+groups_most : (f n : ℕ) → length (groups f n) ≤ f
+unfolding groups
+groups_most zero n = omega arith
+groups_most (suc f) n = ⊎_elim (λ h. rw (one f n h) (omega arith)) (λ h. rw (more f n h) (omega (arith, groups_most f (n / 128)))) (cases_lt n 128)
+
+pub written_most : (ns : List ℕ) → length (written ns) ≤ 5 * length ns
+written_most [] = omega (arith, length_none)
+written_most (n ∷ ns) = omega (arith, length-written n ns, groups_most 5 n, written_most ns)
 
 -- how many bytes numbers of two groups and more take
 pub length_two : (n : ℕ) → 128 ≤ n → n < 16384 → 2 ≡ length (number n)
@@ -117,57 +130,49 @@ module _ (bs : List ℕ) (at k value scale : ℕ) (b : Begun bs at k value scale
         within = omega arith;
       }
 
--- what is left to write leads to what is wanted
-pub record Going (start : List ℕ) (at n : ℕ) (out : List ℕ) (end left : ℕ) : Type 0 where
-  pub room : (f : ℕ) × (end + suc f ≡ at + 5) × (left < 2 ^ (7 * suc f)) × (end + length (groups (suc f) left) ≡ at + length (number n)) × (put out end (groups (suc f) left) ≡ put start at (number n)) × (length out ≡ length start)
+-- the first m bytes from a place on: how many there are, and one of them
+pub length_groups : (bs : List ℕ) (at m r : ℕ) → length (take m (take r (drop at bs))) ≡ min m (min r (length bs - at))
+length_groups bs at m r = omega (arith, length-take m (take r (drop at bs)), length-take r (drop at bs), length-drop at bs)
 
--- one byte of it is written
-put_one : (xs : List ℕ) (i b : ℕ) (ys : List ℕ) → i < length xs → put (set xs i b) (i + 1) ys ≡ put xs i (b ∷ ys)
-put_one xs i b ys h =
-    let e : i + 1 + length ys ≡ i + suc (length ys) = omega arith in
-    let l : i < i + suc (length ys) = omega arith in
-    rw (take_more_set xs i b h, append_assoc, e, drop-set-lt (i + suc (length ys)) xs i b l) refl
+pub byte_at : (bs : List ℕ) (at m r k : ℕ) → k < length (take m (take r (drop at bs))) → (get_or (take m (take r (drop at bs))) k 0 ≡ get_or bs (at + k) 0) × (at + k < length bs) × (k < m)
+byte_at bs at m r k h =
+    let l = length_groups bs at m r in
+    (get_or-take m (take r (drop at bs)) k 0 (omega arith) ∙ (get_or-take r (drop at bs) k 0 (omega arith) ∙ get_or-drop at bs k 0), omega arith, omega arith)
 
-put_last : (xs : List ℕ) (i b : ℕ) → i < length xs → set xs i b ≡ put xs i (b ∷ [])
-put_last xs i b h = set_split xs i b h ∙ rw add-one refl
+-- one byte written is a write of one byte
+set_put : (xs : List ℕ) (i b : ℕ) → i < length xs → set xs i b ≡ put xs i (b ∷ [])
+set_put xs i b h = set_split xs i b h ∙ rw add-one refl
 
-pub begin : (start : List ℕ) (at n : ℕ) → n < 2 ^ 32 → Going start at n start at n
-begin start at n h = record { room = (4, refl, omega arith, refl, refl, refl) }
+-- the groups of what is left lead to the whole number
+pub record Going (start : List ℕ) (n : ℕ) (out : List ℕ) (end left : ℕ) : Type 0 where
+  pub more : ℕ
+  pub small : left < 2 ^ (7 * suc more)
+  pub leads : Leads start (number n) out end (groups (suc more) left)
 
--- some byte is always written
-pub some : (f n : ℕ) → 1 ≤ length (groups (suc f) n)
-some f n = ⊎_elim (λ h. rw (one f n h) (omega arith)) (λ h. rw (more f n h) (omega arith)) (cases_lt n 128)
+pub begin : (start : List ℕ) (n : ℕ) → n < 2 ^ 32 → Going start n start 0 n
+begin start n h = record { more = 4; small = omega arith; leads = Writes.begin start (number n) }
 
-module _ (start : List ℕ) (at n : ℕ) (out : List ℕ) (end left : ℕ) (g : Going start at n out end left) (fits : at + length (number n) ≤ length start) where
+module _ {start : List ℕ} {n : ℕ} {out : List ℕ} {end left : ℕ} (g : Going start n out end left) (fits : length (number n) ≤ length out) where
+  -- some byte is always written
+  some : (f : ℕ) → 1 ≤ length (groups (suc f) left)
+  some f = ⊎_elim (λ h. rw (one f left h) (omega arith)) (λ h. rw (more f left h) (omega arith)) (cases_lt left 128)
+
   pub inside : end < length out
-  inside = let r = g.room in omega (arith, some r.0 left, r.3, r.5)
+  inside = omega (arith, some g.more, g.leads.end)
 
-  step_at : (f : ℕ) → end + suc f ≡ at + 5 → left < 2 ^ (7 * suc f) → end + length (groups (suc f) left) ≡ at + length (number n)
-      → put out end (groups (suc f) left) ≡ put start at (number n) → length out ≡ length start → 128 ≤ left
-      → Going start at n (set out end (128 + left % 128)) (end + 1) (left / 128)
-  step_at zero e h l w s b = absurd (omega arith)
-  step_at (suc f) e h l w s b =
-      let m = more (suc f) left b in
+  step_at : (f : ℕ) → left < 2 ^ (7 * suc f) → Leads start (number n) out end (groups (suc f) left) → 128 ≤ left → Going start n (set out end (128 + left % 128)) (end + 1) (left / 128)
+  step_at zero h l b = absurd (omega arith)
+  step_at (suc f) h l b =
       let p : 7 * suc (suc f) ≡ 7 * suc f + 7 = omega arith in
       let q : 2 ^ (7 * suc (suc f)) ≡ 2 ^ (7 * suc f) * 128 = rw (p, pow-add 2 (7 * suc f) 7) refl in
-      let l' = rw m at l in
-      let w' = rw m at w in
       record {
-        room = (
-          f,
-          omega arith,
-          div_below left 128 (2 ^ (7 * suc f)) (omega arith) (rw q at h),
-          omega arith,
-          put_one out end (128 + left % 128) (groups (suc f) (left / 128)) inside ∙ w',
-          length-set out end (128 + left % 128) ∙ s,
-        );
+        more = f;
+        small = div_below left 128 (2 ^ (7 * suc f)) (omega arith) (rw q at h);
+        leads = rw (set_put out end (128 + left % 128) inside) (put_step l ((128 + left % 128) ∷ []) (groups (suc f) (left / 128)) (more (suc f) left b) fits);
       }
 
-  pub step : 128 ≤ left → Going start at n (set out end (128 + left % 128)) (end + 1) (left / 128)
-  step h = let r = g.room in step_at r.0 r.1 r.2 r.3 r.4 r.5 h
+  pub step : 128 ≤ left → Going start n (set out end (128 + left % 128)) (end + 1) (left / 128)
+  step h = step_at g.more g.small g.leads h
 
-  pub stop : left < 128 → (end + 1 ≡ at + length (number n)) × (set out end left ≡ put start at (number n))
-  stop h =
-      let r = g.room in
-      let m = one r.0 left h in
-      (rw m at r.3, put_last out end left inside ∙ rw m at r.4)
+  pub stop : left < 128 → (end + 1 ≡ length (number n)) × (set out end left ≡ over start (number n))
+  stop h = rw (set_put out end left inside) (Writes.stop (put_step g.leads (left ∷ []) [] (one g.more left h) fits) refl)

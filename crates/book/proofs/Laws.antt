@@ -1,5 +1,5 @@
 -- The numbers of sound tables are as wanted, and no two sound tables have one book. Assumes nothing.
-use Rattle.std.proofs.Common.{◌≡◌, ℕ, suc, ◌+◌, ◌<◌, ◌≤◌, List, [], ◌∷◌, ◌++◌, length, Some, None, Option, sym, refl, ap, ◌∙◌, ⊎_elim, append_assoc, arith, lit<, lit≤}
+use Rattle.std.proofs.Common.{◌≡◌, ℕ, suc, ◌+◌, ◌<◌, ◌≤◌, List, [], ◌∷◌, ◌++◌, length, drop, Some, None, Option, sym, refl, ap, ◌∙◌, ⊎_elim, append_assoc, arith, lit<, lit≤}
 use Rattle.std.proofs.lemmas.Bool.{ne_eqb, eq-eqb, cases_eq}
 use Rattle.std.proofs.lemmas.List.{append-nil, drop_all}
 use Rattle.pegs.specs.Slots.{untouched}
@@ -7,19 +7,19 @@ use Rattle.pegs.specs.declared.peg.FixedLevel.{FixedLevel}
 use Rattle.pegs.specs.declared.peg.Peg.{Peg}
 use Rattle.pegs.specs.declared.slot.Slot.{Slot}
 use Rattle.pegs.specs.declared.tables.Tables.{Tables}
+use Rattle.book.specs.declared.cursor.Cursor.{Cursor}
 use Rattle.book.specs.declared.entry.Table.{Table}
 use Rattle.book.specs.declared.entry.Table.TheVariants.{Pegs, Fixed}
-use Rattle.book.specs.declared.fault.BookFault.{BookFault}
 use Rattle.book.specs.declared.fault.BookFault.TheVariants as bookfault
-use Rattle.book.specs.declared.number.Read.{Read}
 use Rattle.book.specs.Book.{OneBook, book_numbers, edited, encode, entries, entry_numbers, fixed_figures, marked_figures, peg_figures, table_numbers, written}
-use Rattle.book.specs.Numbers.{number, Stands}
-use Rattle.book.specs.Reading.{InRange, TableRead}
+use Rattle.book.specs.Figures.{fair_fixed, fair_peg}
+use Rattle.book.specs.Numbers.{number, Passed}
+use Rattle.book.specs.Reading.{TableRead}
 use Rattle.book.specs.Sound.{GoodFixed, GoodPeg, Sound, SoundSlots}
-use Rattle.book.specs.Wanted.{Fair, FirstFault, FirstFrom, Want, above, after, count, entry, entry_number, form, next_entry, next_table, nothing, size, station}
+use Rattle.book.specs.Wanted.{Fair, FirstFrom, Want, above, after, count, entry, entry_number, form, next_entry, next_table, nothing, size, station}
 use Rattle.book.proofs.Apart.{number_apart}
-use Rattle.book.proofs.Paths.{Way, after_way, at_once, fair_join, stands_both, stands_cons, way_one}
-use Rattle.book.proofs.Slots.{fair_entry, fair_fixed, fair_peg, few, no_more}
+use Rattle.book.proofs.Paths.{Way, after_way, at_once, fair_join, passed_both, passed_cons, way_join, way_one}
+use Rattle.book.proofs.Slots.{fair_entry, few, no_more}
 
 pub sound_rest : {T : Type 0} (Good : T → Type 0) (s : Slot T) (ss : List (Slot T)) → SoundSlots Good (s ∷ ss) → SoundSlots Good ss
 sound_rest Good s ss o = record { fits = λ i. o.fits (suc i); never = λ i. o.never (suc i); good = λ i. o.good (suc i) }
@@ -71,27 +71,20 @@ fair_book t o = (
 )
 
 -- the form number, the pegs and the fixed levels, one after the other
-module _ (bs : List ℕ) (v : Read) (f : InRange bs 0 1 1 v) where
-  one : Way bs 0 form v.end (count Pegs)
-  one = way_one bs 0 form v.end v.value f.stands f.above f.below (omega (arith, f.below))
+module _ {a b : Cursor} (f : Passed a b (number 1)) where
+  pub form_way : Way a form b (count Pegs)
+  form_way = way_one form 1 f (lit≤ tt) (lit≤ tt) (lit< tt)
 
-  pub in_pegs : (x : BookFault) → FirstFrom bs v.end (count Pegs) x → FirstFault bs x
-  in_pegs x h = after_way bs 0 form v.end (count Pegs) x one h
+  module _ {c : Cursor} {ps : List (Slot Peg)} (p : TableRead Pegs peg_figures GoodPeg b c ps) where
+    pub pegs_way : Way a form c (count Fixed)
+    pegs_way = way_join form_way (record { numbers = table_numbers peg_figures ps; fair = fair_table Pegs peg_figures GoodPeg fair_peg ps p.long p.sound; passed = p.passed })
 
-  module _ (ps : List (Slot Peg)) (pe : ℕ) (p : TableRead Pegs peg_figures GoodPeg bs v.end ps pe) where
-    two : Way bs v.end (count Pegs) pe (count Fixed)
-    two = record { numbers = table_numbers peg_figures ps; fair = fair_table Pegs peg_figures GoodPeg fair_peg ps p.long p.sound; stands = p.stands }
+    module _ {d : Cursor} {xs : List (Slot FixedLevel)} (q : TableRead Fixed fixed_figures GoodFixed c d xs) where
+      fixed_way : Way a form d nothing
+      fixed_way = way_join pegs_way (record { numbers = table_numbers fixed_figures xs; fair = fair_table Fixed fixed_figures GoodFixed fair_fixed xs q.long q.sound; passed = q.passed })
 
-    pub in_fixed : (x : BookFault) → FirstFrom bs pe (count Fixed) x → FirstFault bs x
-    in_fixed x h = in_pegs x (after_way bs v.end (count Pegs) pe (count Fixed) x two h)
-
-    module _ (xs : List (Slot FixedLevel)) (xe : ℕ) (q : TableRead Fixed fixed_figures GoodFixed bs pe xs xe) where
-      three : Way bs pe (count Fixed) xe nothing
-      three = record { numbers = table_numbers fixed_figures xs; fair = fair_table Fixed fixed_figures GoodFixed fair_fixed xs q.long q.sound; stands = q.stands }
-
-      pub left_over : xe < length bs → FirstFault bs (bookfault.Extra xe)
-      left_over l =
-          in_fixed (bookfault.Extra xe) (after_way bs pe (count Fixed) xe nothing (bookfault.Extra xe) three (at_once bs xe nothing above (bookfault.Extra xe) (omega arith) l refl))
+      pub left_over : d.at < length a.bytes.now → FirstFrom a.bytes.now a.at form (bookfault.Extra d.at)
+      left_over l = after_way fixed_way (at_once d.bytes.now d.at nothing above (bookfault.Extra d.at) d.within (rw (← fixed_way.passed.same) at l) refl)
 
       pub all_sound : Sound (record { pegs = ps; fixed = xs })
       all_sound =
@@ -106,13 +99,11 @@ module _ (bs : List ℕ) (v : Read) (f : InRange bs 0 1 1 v) where
             fixed_good = q.sound.good;
           }
 
-      pub all_read : length bs ≤ xe → bs ≡ encode (record { pegs = ps; fixed = xs })
+      pub all_read : length a.bytes.now ≤ d.at → drop a.at a.bytes.now ≡ encode (record { pegs = ps; fixed = xs })
       all_read l =
-          let is : v.value ≡ 1 = omega (arith, f.above, f.below) in
-          let s : Stands bs 0 (number 1) v.end = rw is at f.stands in
           let tables = table_numbers peg_figures ps ++ table_numbers fixed_figures xs in
-          let r = stands_cons bs 0 v.end xe 1 tables s (stands_both bs v.end pe xe (table_numbers peg_figures ps) (table_numbers fixed_figures xs) p.stands q.stands) in
-          r.bytes ∙ rw (drop_all xe bs l, append-nil (written (1 ∷ tables))) refl
+          let r = passed_cons 1 tables f (passed_both (table_numbers peg_figures ps) (table_numbers fixed_figures xs) p.passed q.passed) in
+          r.stands.bytes ∙ rw (drop_all d.at a.bytes.now l, append-nil (written (1 ∷ tables))) refl
 
 -- what is written tells its numbers
 written_apart : (w : Want) (ns ms : List ℕ) → Fair w ns nothing → Fair w ms nothing → written ns ≡ written ms → ns ≡ ms

@@ -1,10 +1,10 @@
 pub mod Groups
 pub mod Apart
 pub mod Paths
-pub mod Entries
 pub mod Slots
 pub mod Laws
 pub mod Once
 pub mod Writes
+pub mod Tables
 pub mod Sizes
 pub mod Exact

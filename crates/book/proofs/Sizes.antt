@@ -11,7 +11,8 @@ use Rattle.book.specs.Sound.{GoodFixed, GoodPeg, Sound, SoundSlots}
 use Rattle.book.proofs.Apart.{halved}
 use Rattle.book.proofs.Groups.{more, one}
 use Rattle.book.proofs.Laws.{edited_most, fixed_sound, pegs_sound, sound_rest}
-use Rattle.book.proofs.Writes.{book_length, length_both, length_none, length-written}
+use Rattle.book.proofs.Tables.{book_length}
+use Rattle.book.proofs.Writes.{length_both, length_none, length-written}
 
 -- a number of f + 1 groups takes no more bytes
 groups_few : (g f n : ℕ) → f ≤ g → n < 2 ^ (7 * suc f) → length (groups (suc g) n) ≤ suc f

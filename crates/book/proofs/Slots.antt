@@ -3,21 +3,19 @@ use Rattle.std.proofs.Common.{◌≡◌, ℕ, zero, suc, ◌+◌, ◌-◌, ◌^�
 use Rattle.std.proofs.lemmas.Bool.{ne_eqb, cases_eq, cases_lt}
 use Rattle.std.proofs.lemmas.List.{append-nil, get_or-replicate, get_or_past, length-set, length-replicate, get_or-set_same, get_or-set_other}
 use Rattle.pegs.specs.Slots.{untouched}
-use Rattle.pegs.specs.declared.peg.FixedLevel.{FixedLevel}
-use Rattle.pegs.specs.declared.peg.Peg.{Peg}
 use Rattle.pegs.specs.declared.slot.Slot.{Slot}
+use Rattle.book.specs.declared.cursor.Cursor.{Cursor}
 use Rattle.book.specs.declared.entry.Entry.{Entry}
 use Rattle.book.specs.declared.entry.Table.{Table}
 use Rattle.book.specs.declared.entry.Table.TheVariants.{Pegs, Fixed}
 use Rattle.book.specs.declared.fault.BookFault.TheVariants as bookfault
 use Rattle.book.specs.declared.fault.EntryFault.{EntryFault}
-use Rattle.book.specs.declared.number.Read.{Read}
-use Rattle.book.specs.Book.{edited, entries, entry_numbers, fixed_figures, marked_figures, peg_figures, written}
-use Rattle.book.specs.Numbers.{number, Stands}
+use Rattle.book.specs.Book.{edited, entries, entry_numbers, marked_figures, written}
+use Rattle.book.specs.Numbers.{number, Passed}
 use Rattle.book.specs.Reading.{EntryRead, InRange, TableRead}
-use Rattle.book.specs.Sound.{GoodFixed, GoodPeg, SoundSlots}
+use Rattle.book.specs.Sound.{SoundSlots}
 use Rattle.book.specs.Wanted.{Fair, FirstFrom, FirstInEntry, above, below, count, entry, entry_number, form, highest, next_entry, size, station}
-use Rattle.book.proofs.Paths.{Way, after_way, at_once, fair_join, in_book, stands_both, stands_one}
+use Rattle.book.proofs.Paths.{Way, after_way, at_once, fair_join, in_book, passed_both, passed_one}
 
 pub few : (t : Table) → highest t + 1 ≡ size t
 few Pegs = refl
@@ -27,23 +25,15 @@ pub no_more : (t : Table) → size t ≤ 40
 no_more Pegs = lit≤ tt
 no_more Fixed = lit≤ tt
 
-pub fair_peg : (left lowest : ℕ) (p : Peg) → GoodPeg p → Fair (entry Pegs left lowest station) (peg_figures p) (next_entry Pegs left lowest)
-unfolding Fair
-fair_peg left lowest p g = (omega arith, g.0, omega arith, (omega arith, g.1, omega arith, refl))
-
-pub fair_fixed : (left lowest : ℕ) (x : FixedLevel) → GoodFixed x → Fair (entry Fixed left lowest station) (fixed_figures x) (next_entry Fixed left lowest)
-unfolding Fair
-fair_fixed left lowest x g = (omega arith, g.0, omega arith, (omega arith, omega arith, omega arith, (g.1, g.2, omega arith, refl)))
-
 -- a form number other than 1 is above it or below
-pub not_one : (bs : List ℕ) (v : Read) → Stands bs 0 (number v.value) v.end → v.value < 2 ^ 32 → (v.value ≡ 1 → ⊥) → FirstFrom bs 0 form (bookfault.Form 0)
-not_one bs v s l h =
+pub not_one : (a b : Cursor) (n : ℕ) → Passed a b (number n) → n < 2 ^ 32 → (n ≡ 1 → ⊥) → FirstFrom a.bytes.now a.at form (bookfault.Form a.at)
+not_one a b n s l h =
     ⊎_elim
-    (λ (q : 1 < v.value). at_once bs 0 form above (bookfault.Form 0) (omega arith) (record { value = v.value; to = v.end; small = l; stands = s; has = q }) refl)
-    (λ (q : v.value ≤ 1).
-    at_once bs 0 form below (bookfault.Form 0) (omega arith)
-    (record { value = v.value; to = v.end; small = l; stands = s; has = (q, ⊎_elim (λ (z : v.value ≡ 1). absurd (h z)) (λ _. omega arith) (cases_eq v.value 1)) }) refl)
-    (cases_lt 1 v.value)
+    (λ (q : 1 < n). at_once a.bytes.now a.at form above (bookfault.Form a.at) a.within (record { value = n; to = b.at; small = l; stands = s.stands; has = q }) refl)
+    (λ (q : n ≤ 1).
+    at_once a.bytes.now a.at form below (bookfault.Form a.at) a.within
+    (record { value = n; to = b.at; small = l; stands = s.stands; has = (q, ⊎_elim (λ (z : n ≡ 1). absurd (h z)) (λ _. omega arith) (cases_eq n 1)) }) refl)
+    (cases_lt 1 n)
 
 module _ {T : Type 0} (figures : T → List ℕ) where
   entries_none : (k : ℕ) (ss : List (Slot T)) → ((j : ℕ) → get_or ss j untouched ≡ untouched) → entries figures k ss ≡ []
@@ -93,86 +83,85 @@ module _ {T : Type 0} (t : Table) (figures : T → List ℕ) (Good : T → Type 
       fair_held (Some x) g = (l, h, omega (arith, few t, no_more t), (p, omega arith, f, (omega arith, lit≤ tt, lit< tt, fair left (k + 1) x (g x refl))))
 
 -- the first k of the entries are read
-pub record Sofar {T : Type 0} (t : Table) (figures : T → List ℕ) (Good : T → Type 0) (bs : List ℕ) (from total k lowest at : ℕ) (slots : List (Slot T)) : Type 0 where
+pub record Sofar {T : Type 0} (t : Table) (figures : T → List ℕ) (Good : T → Type 0) (a b : Cursor) (total k lowest : ℕ) (slots : List (Slot T)) : Type 0 where
   pub fair : Fair (count t) (total ∷ entries figures 0 slots) (next_entry t (total - k) lowest)
-  pub stands : Stands bs from (written (total ∷ entries figures 0 slots)) at
+  pub passed : Passed a b (written (total ∷ entries figures 0 slots))
   pub empties : (j : ℕ) → lowest ≤ j → get_or slots j untouched ≡ untouched
   pub counted : edited slots ≡ k
   pub long : length slots ≡ size t
   pub high : lowest ≤ size t
   pub sound : SoundSlots Good slots
 
-module _ {T : Type 0} (t : Table) (figures : T → List ℕ) (Good : T → Type 0) (bs : List ℕ) (from : ℕ) where
-  module _ (n : Read) (i : InRange bs from 0 (size t) n) where
-    unset : (j : ℕ) → get_or (replicate (size t) (untouched {T = T})) j untouched ≡ untouched
-    unset j = ⊎_elim (λ q. get_or-replicate (size t) j untouched untouched q) (λ q. get_or_past (replicate (size t) untouched) j untouched (omega (arith, length-replicate (size t) (untouched {T = T})))) (cases_lt j (size t))
+module _ {T : Type 0} (t : Table) (figures : T → List ℕ) (Good : T → Type 0) where
+  unset : (j : ℕ) → get_or (replicate (size t) (untouched {T = T})) j untouched ≡ untouched
+  unset j = ⊎_elim (λ q. get_or-replicate (size t) j untouched untouched q) (λ q. get_or_past (replicate (size t) untouched) j untouched (omega (arith, length-replicate (size t) (untouched {T = T})))) (cases_lt j (size t))
 
-    pub begin : Sofar t figures Good bs from n.value 0 0 n.end (replicate (size t) untouched)
-    unfolding Fair
-    begin =
-        let z : n.value - 0 ≡ n.value = omega arith in
-        let e = entries_none figures 0 (replicate (size t) untouched) unset in
+  pub begin : {a b : Cursor} {n : ℕ} → InRange a b 0 (size t) n → Sofar t figures Good a b n 0 0 (replicate (size t) untouched)
+  unfolding Fair
+  begin {n = n} i =
+      let z : n - 0 ≡ n = omega arith in
+      let e = entries_none figures 0 (replicate (size t) untouched) unset in
+      record {
+        fair = rw (e, z) (i.above, i.below, omega (arith, i.below, no_more t), refl);
+        passed = rw e (passed_one n i.passed);
+        empties = λ j _. unset j;
+        counted = edited_none figures (replicate (size t) untouched) unset;
+        long = length-replicate (size t) untouched;
+        high = omega arith;
+        sound = record {
+          fits = λ j. rw (unset j) (lit< tt);
+          never = λ j _. ap (λ (s : Slot T). s.held) (unset j);
+          good = λ j x q. let u = ap (λ (s : Slot T). s.held) (unset j) in let z : ◌≡◌ {A = ℕ} 0 1 = cc in absurd (omega arith);
+        };
+      }
+
+module _ {T : Type 0} {t : Table} {figures : T → List ℕ} {Good : T → Type 0} {a b : Cursor} {total k lowest : ℕ} {slots : List (Slot T)} (f : Sofar t figures Good a b total k lowest slots) where
+  goes_on : k < total → Fair (count t) (total ∷ entries figures 0 slots) (entry t (total - (k + 1)) lowest entry_number)
+  goes_on lt = let more : total - k ≡ suc (total - (k + 1)) = omega arith in rw more at f.fair
+
+  pub in_entry : k < total → (x : EntryFault) → ((left : ℕ) → FirstInEntry b.bytes.now b.at (entry t left lowest entry_number) x) → FirstFrom a.bytes.now a.at (count t) (bookfault.Entry x)
+  in_entry lt x h =
+      let left = total - (k + 1) in
+      let y : Way a (count t) b (entry t left lowest entry_number) = record { numbers = total ∷ entries figures 0 slots; fair = goes_on lt; passed = f.passed } in
+      after_way y (in_book b.bytes.now b.at (entry t left lowest entry_number) x (h left))
+
+  pub whole : k ≡ total → TableRead t figures Good a b slots
+  whole h =
+      let e : edited slots ≡ total = f.counted ∙ h in
+      record { passed = rw e f.passed; long = f.long; sound = f.sound }
+
+  module _ (fair : (left lowest : ℕ) (x : T) → Good x → Fair (entry t left lowest station) (figures x) (next_entry t left lowest)) {c : Cursor} {e : Entry T} (n : EntryRead t figures Good b c lowest e) where
+    pub inside : e.number < length slots
+    inside = omega (arith, n.below, f.long, few t)
+
+    none : (j : ℕ) → e.number ≤ j → get_or slots j untouched ≡ untouched
+    none j h = f.empties j (omega (arith, n.above))
+
+    grows : entries figures 0 (set slots e.number e.slot) ≡ entries figures 0 slots ++ entry_numbers figures e.number e.slot
+    grows = let z : 0 + e.number ≡ e.number = omega arith in rw z at (entries-set figures 0 slots e.number e.slot inside none n.last)
+
+    same : get_or (set slots e.number e.slot) e.number untouched ≡ e.slot
+    same = get_or-set_same slots e.number e.slot untouched inside
+
+    other : (i : ℕ) → (i ≡ e.number → ⊥) → get_or (set slots e.number e.slot) i untouched ≡ get_or slots i untouched
+    other i q = get_or-set_other slots e.number i e.slot untouched q
+
+    pub enter : k < total → Sofar t figures Good a c total (k + 1) (e.number + 1) (set slots e.number e.slot)
+    enter lt =
         record {
-          fair = rw (e, z) (i.above, i.below, omega (arith, i.below, no_more t), refl);
-          stands = rw e (stands_one bs from n.end n.value i.stands);
-          empties = λ j _. unset j;
-          counted = edited_none figures (replicate (size t) untouched) unset;
-          long = length-replicate (size t) untouched;
-          high = omega arith;
+          fair = rw grows
+              (fair_join (count t) (total ∷ entries figures 0 slots) (entry t (total - (k + 1)) lowest entry_number) (entry_numbers figures e.number e.slot) (next_entry t (total - (k + 1)) (e.number + 1)) (goes_on lt)
+              (fair_entry t figures Good fair (total - (k + 1)) lowest e.number e.slot n.above n.below n.last n.fits n.good));
+          passed = rw grows (passed_both (total ∷ entries figures 0 slots) (entry_numbers figures e.number e.slot) f.passed n.passed);
+          empties = λ j h. other j (λ q. omega arith) ∙ f.empties j (omega (arith, n.above));
+          counted = edited-set figures slots e.number e.slot inside none n.last ∙ omega (arith, f.counted);
+          long = length-set slots e.number e.slot ∙ f.long;
+          high = omega (arith, n.below, few t);
           sound = record {
-            fits = λ j. rw (unset j) (lit< tt);
-            never = λ j _. ap (λ (s : Slot T). s.held) (unset j);
-            good = λ j x q. let u = ap (λ (s : Slot T). s.held) (unset j) in let z : ◌≡◌ {A = ℕ} 0 1 = cc in absurd (omega arith);
+            fits = λ i. ⊎_elim (λ (q : i ≡ e.number). rw (q, same) n.fits) (λ q. rw (other i q) (f.sound.fits i)) (cases_eq i e.number);
+            never = λ i.
+                ⊎_elim (λ (q : i ≡ e.number). rw (q, same) (λ (z : e.slot.last ≡ 0). absurd (omega (arith, n.last))))
+                (λ q. rw (other i q) (f.sound.never i)) (cases_eq i e.number);
+            good = λ i. ⊎_elim (λ (q : i ≡ e.number). rw (q, same) n.good) (λ q. rw (other i q) (f.sound.good i)) (cases_eq i e.number);
           };
         }
-
-  module _ (total k lowest at : ℕ) (slots : List (Slot T)) (f : Sofar t figures Good bs from total k lowest at slots) where
-    goes_on : k < total → Fair (count t) (total ∷ entries figures 0 slots) (entry t (total - (k + 1)) lowest entry_number)
-    goes_on lt = let more : total - k ≡ suc (total - (k + 1)) = omega arith in rw more at f.fair
-
-    pub in_entry : k < total → (x : EntryFault) → ((left : ℕ) → FirstInEntry bs at (entry t left lowest entry_number) x) → FirstFrom bs from (count t) (bookfault.Entry x)
-    in_entry lt x h =
-        let left = total - (k + 1) in
-        let a : Way bs from (count t) at (entry t left lowest entry_number) = record { numbers = total ∷ entries figures 0 slots; fair = goes_on lt; stands = f.stands } in
-        after_way bs from (count t) at (entry t left lowest entry_number) (bookfault.Entry x) a (in_book bs at (entry t left lowest entry_number) x (h left))
-
-    pub whole : k ≡ total → TableRead t figures Good bs from slots at
-    whole h =
-        let e : edited slots ≡ total = f.counted ∙ h in
-        record { stands = rw e f.stands; long = f.long; sound = f.sound }
-
-    module _ (fair : (left lowest : ℕ) (x : T) → Good x → Fair (entry t left lowest station) (figures x) (next_entry t left lowest)) (e : Entry T) (n : EntryRead t figures Good bs at lowest e) where
-      inside : e.number < length slots
-      inside = omega (arith, n.below, f.long, few t)
-
-      none : (j : ℕ) → e.number ≤ j → get_or slots j untouched ≡ untouched
-      none j h = f.empties j (omega (arith, n.above))
-
-      grows : entries figures 0 (set slots e.number e.slot) ≡ entries figures 0 slots ++ entry_numbers figures e.number e.slot
-      grows = let z : 0 + e.number ≡ e.number = omega arith in rw z at (entries-set figures 0 slots e.number e.slot inside none n.last)
-
-      same : get_or (set slots e.number e.slot) e.number untouched ≡ e.slot
-      same = get_or-set_same slots e.number e.slot untouched inside
-
-      other : (i : ℕ) → (i ≡ e.number → ⊥) → get_or (set slots e.number e.slot) i untouched ≡ get_or slots i untouched
-      other i q = get_or-set_other slots e.number i e.slot untouched q
-
-      pub enter : k < total → Sofar t figures Good bs from total (k + 1) (e.number + 1) e.end (set slots e.number e.slot)
-      enter lt =
-          record {
-            fair = rw grows
-                (fair_join (count t) (total ∷ entries figures 0 slots) (entry t (total - (k + 1)) lowest entry_number) (entry_numbers figures e.number e.slot) (next_entry t (total - (k + 1)) (e.number + 1)) (goes_on lt)
-                (fair_entry t figures Good fair (total - (k + 1)) lowest e.number e.slot n.above n.below n.last n.fits n.good));
-            stands = rw grows (stands_both bs from at e.end (total ∷ entries figures 0 slots) (entry_numbers figures e.number e.slot) f.stands n.stands);
-            empties = λ j h. other j (λ q. omega arith) ∙ f.empties j (omega (arith, n.above));
-            counted = edited-set figures slots e.number e.slot inside none n.last ∙ omega (arith, f.counted);
-            long = length-set slots e.number e.slot ∙ f.long;
-            high = omega (arith, n.below, few t);
-            sound = record {
-              fits = λ i. ⊎_elim (λ (q : i ≡ e.number). rw (q, same) n.fits) (λ q. rw (other i q) (f.sound.fits i)) (cases_eq i e.number);
-              never = λ i.
-                  ⊎_elim (λ (q : i ≡ e.number). rw (q, same) (λ (z : e.slot.last ≡ 0). absurd (omega (arith, n.last))))
-                  (λ q. rw (other i q) (f.sound.never i)) (cases_eq i e.number);
-              good = λ i. ⊎_elim (λ (q : i ≡ e.number). rw (q, same) n.good) (λ q. rw (other i q) (f.sound.good i)) (cases_eq i e.number);
-            };
-          }

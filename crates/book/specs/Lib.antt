@@ -1,8 +1,10 @@
 pub mod Book
 pub mod Faults
+pub mod Figures
 pub mod Numbers
 pub mod Pairs
 pub mod Reading
 pub mod Sound
 pub mod Wanted
+pub mod Words
 pub mod Writing

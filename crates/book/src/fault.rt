@@ -1,6 +1,7 @@
 // What is wrong with a book, by the layer in which it arose.
-ghost use Rattle.std.specs.Prelude.{◌≡◌};
+ghost use Rattle.std.specs.Prelude.{◌≡◌, Some, codes};
 ghost use Rattle.book.specs.Faults.{book_fault_number, book_layer, book_place, entry_fault_number, entry_layer, entry_place, misfit_number, of_entry, of_number, of_number_book, too_short_number};
+ghost use Rattle.book.specs.Words.{book_words, entry_words, layer_words, misfit_words, number_words};
 
 use pegs::edit::EditRefusal;
 use std::fmt;
@@ -106,29 +107,6 @@ impl Misfit {
             Misfit::LowAboveHigh => EditRefusal::LowAboveHigh.number(),
         }
     }
-
-    fn words(self) -> &'static str {
-        match self {
-            Misfit::NumberTooHigh =>
-                "an entry's number is above 39 for a peg, 15 for a fixed level",
-            Misfit::NotRising => "an entry's number is not above the one before",
-            Misfit::SequenceZero => "a sequence number is 0",
-            Misfit::NoMark => "a mark is neither 0 nor 1",
-            Misfit::StationTooHigh => "a station is above 10000 m",
-            Misfit::LevelTooHigh => "a level is above 9000000 mm",
-            Misfit::LowAboveHigh => "a low bound is above the high one",
-        }
-    }
-}
-
-impl NumberKind {
-    fn words(self) -> &'static str {
-        match self {
-            NumberKind::Cut => "the bytes end within a number, or before it",
-            NumberKind::Long => "a number is not in its shortest form",
-            NumberKind::Large => "a number is above 4294967295",
-        }
-    }
 }
 
 impl EntryFault {
@@ -138,7 +116,7 @@ impl EntryFault {
     {
         match self {
             EntryFault::Unread(fault) => fault.place,
-            EntryFault::Unfit { place, misfit: _ } => place,
+            EntryFault::Unfit { place, .. } => place,
         }
     }
 
@@ -148,10 +126,7 @@ impl EntryFault {
     {
         match self {
             EntryFault::Unread(_) => Layer::Number,
-            EntryFault::Unfit {
-                place: _,
-                misfit: _,
-            } => Layer::Entry,
+            EntryFault::Unfit { .. } => Layer::Entry,
         }
     }
 
@@ -161,14 +136,7 @@ impl EntryFault {
     {
         match self {
             EntryFault::Unread(_) => UNREAD,
-            EntryFault::Unfit { place: _, misfit } => misfit.number(),
-        }
-    }
-
-    fn words(self) -> &'static str {
-        match self {
-            EntryFault::Unread(fault) => fault.kind.words(),
-            EntryFault::Unfit { place: _, misfit } => misfit.words(),
+            EntryFault::Unfit { misfit, .. } => misfit.number(),
         }
     }
 }
@@ -212,22 +180,6 @@ impl BookFault {
             BookFault::Extra(_) => UNFIT,
         }
     }
-
-    fn words(self) -> &'static str {
-        match self {
-            BookFault::Unread(fault) => fault.kind.words(),
-            BookFault::Entry(fault) => fault.words(),
-            BookFault::Form(_) => "the form number is not 1",
-            BookFault::Count(_) => "a count is above 40 for pegs, 16 for fixed levels",
-            BookFault::Extra(_) => "bytes are left over after the last entry",
-        }
-    }
-}
-
-impl fmt::Display for BookFault {
-    fn fmt<W: fmt::Write>(&self, f: &mut fmt::Formatter<W>) -> fmt::Result {
-        f.write_str(self.words())
-    }
 }
 
 impl TooShort {
@@ -239,7 +191,75 @@ impl TooShort {
     }
 }
 
+impl fmt::Display for NumberKind {
+    ghost output = { λ kind. Some (number_words kind) };
+
+    fn fmt<W: fmt::Write>(&self, f: &mut fmt::Formatter<W>) -> fmt::Result {
+        f.write_str(match self {
+            NumberKind::Cut => "the bytes end within a number, or before it",
+            NumberKind::Long => "a number is not in its shortest form",
+            NumberKind::Large => "a number is above 4294967295",
+        })
+    }
+}
+
+impl fmt::Display for Misfit {
+    ghost output = { λ misfit. Some (misfit_words misfit) };
+
+    fn fmt<W: fmt::Write>(&self, f: &mut fmt::Formatter<W>) -> fmt::Result {
+        f.write_str(match self {
+            Misfit::NumberTooHigh =>
+                "an entry's number is above 39 for a peg, 15 for a fixed level",
+            Misfit::NotRising => "an entry's number is not above the one before",
+            Misfit::SequenceZero => "a sequence number is 0",
+            Misfit::NoMark => "a mark is neither 0 nor 1",
+            Misfit::StationTooHigh => "a station is above 10000 m",
+            Misfit::LevelTooHigh => "a level is above 9000000 mm",
+            Misfit::LowAboveHigh => "a low bound is above the high one",
+        })
+    }
+}
+
+impl fmt::Display for EntryFault {
+    ghost output = { λ fault. Some (entry_words fault) };
+
+    fn fmt<W: fmt::Write>(&self, f: &mut fmt::Formatter<W>) -> fmt::Result {
+        match self {
+            EntryFault::Unread(fault) => fault.kind.fmt(f),
+            EntryFault::Unfit { misfit, .. } => misfit.fmt(f),
+        }
+    }
+}
+
+impl fmt::Display for BookFault {
+    ghost output = { λ fault. Some (book_words fault) };
+
+    fn fmt<W: fmt::Write>(&self, f: &mut fmt::Formatter<W>) -> fmt::Result {
+        match self {
+            BookFault::Unread(fault) => fault.kind.fmt(f),
+            BookFault::Entry(fault) => fault.fmt(f),
+            BookFault::Form(_) => f.write_str("the form number is not 1"),
+            BookFault::Count(_) => f.write_str("a count is above 40 for pegs, 16 for fixed levels"),
+            BookFault::Extra(_) => f.write_str("bytes are left over after the last entry"),
+        }
+    }
+}
+
+impl fmt::Display for Layer {
+    ghost output = { λ layer. Some (layer_words layer) };
+
+    fn fmt<W: fmt::Write>(&self, f: &mut fmt::Formatter<W>) -> fmt::Result {
+        f.write_str(match self {
+            Layer::Number => "number",
+            Layer::Entry => "entry",
+            Layer::Book => "book",
+        })
+    }
+}
+
 impl fmt::Display for TooShort {
+    ghost output = { λ _. Some (codes "the buffer is too short for the book") };
+
     fn fmt<W: fmt::Write>(&self, f: &mut fmt::Formatter<W>) -> fmt::Result {
         f.write_str("the buffer is too short for the book")
     }

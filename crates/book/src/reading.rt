@@ -1,109 +1,69 @@
 // Reading a book: its form number, its pegs, its fixed levels, and nothing more.
-ghost use Rattle.std.specs.Prelude.{◌≤◌, length};
-ghost use Rattle.book.specs.Reading.{Counted, Exact, FixedAnswered, Formed, PegsAnswered, Reads, Told};
+ghost use Rattle.std.specs.Prelude.{◌≡◌, replicate};
+ghost use Rattle.pegs.specs.Slots.{untouched};
+ghost use Rattle.book.specs.Reading.{Counted, Exact, Formed, Reads, TableAnswered, Told};
+ghost use Rattle.book.specs.Wanted.{size};
 
-use crate::entry::{Entry, Table, read_fixed_entry, read_peg_entry};
+use crate::cursor::Cursor;
+use crate::entry::{Entry, Table};
 use crate::fault::{BookFault, EntryFault, NumberFault};
-use crate::number::{Read, read_number};
-use pegs::peg::{FixedLevel, Peg};
+use crate::held::Held;
 use pegs::slot::Slot;
 use pegs::tables::Tables;
 
-// The pegs of a book, and the place after them.
-#[derive(Clone, Copy)]
-struct PegsRead {
-    slots: [Slot<Peg>; 40],
-    end: usize,
-}
-
-// The fixed levels of a book, and the place after them.
-#[derive(Clone, Copy)]
-struct FixedRead {
-    slots: [Slot<FixedLevel>; 16],
-    end: usize,
-}
-
-// The form number, which is 1.
-fn read_form(bytes: &[u8]) -> Result<Read, BookFault>
-    ensures { Formed bytes.now result }
-{
-    let form = read_number(bytes, 0)?;
-    if form.value != 1 {
-        return Err(BookFault::Form(0));
+impl<'a> Cursor<'a> {
+    // The form number, which is 1.
+    fn form(&mut self) -> Result<(), BookFault>
+        ensures { Formed self.old self.new result }
+    {
+        let place = self.at;
+        if self.number()? != 1 {
+            return Err(BookFault::Form(place));
+        }
+        Ok(())
     }
-    Ok(form)
-}
 
-// How many entries a table has in the book.
-fn read_count(bytes: &[u8], at: usize, table: Table) -> Result<Read, BookFault>
-    requires { at ≤ length bytes.now }
-    ensures { Counted bytes.now at table result }
-{
-    let count = read_number(bytes, at)?;
-    if count.value > table.size() {
-        return Err(BookFault::Count(at));
+    // How many entries a table has in the book.
+    fn count(&mut self, table: Table) -> Result<u32, BookFault>
+        ensures { Counted self.old table self.new result }
+    {
+        let place = self.at;
+        let count = self.number()?;
+        if count > table.size() {
+            return Err(BookFault::Count(place));
+        }
+        Ok(count)
     }
-    Ok(count)
-}
 
-// The pegs.
-fn read_pegs(bytes: &[u8], at: usize) -> Result<PegsRead, BookFault>
-    requires { at ≤ length bytes.now }
-    ensures { PegsAnswered bytes.now at result }
-{
-    let count = read_count(bytes, at, Table::Pegs)?;
-    let mut slots = [Slot {
-        last: 0,
-        held: None,
-    }; 40];
-    let mut lowest = 0;
-    let mut end = count.end;
-    for k in 0..count.value {
-        let entry = read_peg_entry(bytes, end, lowest)?;
-        slots[entry.number as usize] = entry.slot;
-        lowest = entry.number + 1;
-        end = entry.end;
+    // The entries of a table, into slots that were never edited.
+    fn table<T: Held>(&mut self, slots: &mut [Slot<T>]) -> Result<(), BookFault>
+        requires { slots.old ≡ replicate (size T.TABLE) untouched }
+        ensures { TableAnswered T.TABLE T.figures T.Good self.old slots.new self.new result }
+    {
+        let count = self.count(T::TABLE)?;
+        let mut lowest = 0;
+        for _ in 0..count {
+            let entry = self.entry(lowest)?;
+            slots[entry.number as usize] = entry.slot;
+            lowest = entry.number + 1;
+        }
+        Ok(())
     }
-    Ok(PegsRead { slots, end })
-}
-
-// The fixed levels.
-fn read_fixed_levels(bytes: &[u8], at: usize) -> Result<FixedRead, BookFault>
-    requires { at ≤ length bytes.now }
-    ensures { FixedAnswered bytes.now at result }
-{
-    let levels = read_count(bytes, at, Table::Fixed)?;
-    let mut slots = [Slot {
-        last: 0,
-        held: None,
-    }; 16];
-    let mut lowest = 0;
-    let mut end = levels.end;
-    for k in 0..levels.value {
-        let entry = read_fixed_entry(bytes, end, lowest)?;
-        slots[entry.number as usize] = entry.slot;
-        lowest = entry.number + 1;
-        end = entry.end;
-    }
-    Ok(FixedRead { slots, end })
 }
 
 // The tables of a book, or its first fault.
 fn read_tables(bytes: &[u8]) -> Result<Tables, BookFault>
     ensures { Reads bytes.now result }
 {
-    let form = read_form(bytes)?;
-    let pegs = read_pegs(bytes, form.end)?;
-    let fixed = read_fixed_levels(bytes, pegs.end)?;
-    if fixed.end < bytes.len() {
-        return Err(BookFault::Extra(fixed.end));
+    let mut tables = Tables::new();
+    let mut cursor = Cursor { bytes, at: 0 };
+    cursor.form()?;
+    cursor.table(&mut tables.pegs)?;
+    cursor.table(&mut tables.fixed)?;
+    if cursor.at < bytes.len() {
+        return Err(BookFault::Extra(cursor.at));
     }
-    let peg_slots = pegs.slots;
-    let fixed_slots = fixed.slots;
-    Ok(Tables {
-        pegs: peg_slots,
-        fixed: fixed_slots,
-    })
+    Ok(tables)
 }
 
 // The tables that a book was written from, or the first fault in byte order.

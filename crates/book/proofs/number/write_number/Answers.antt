@@ -1,17 +1,15 @@
+use Rattle.std.proofs.Common.{arith}
 use Rattle.book.proofs.Groups.{inside, step, stop}
 use Rattle.book.proofs.number.write_number.Goals as goal
 
 pub bounds-out-end : goal.bounds-out-end
-bounds-out-end c = inside c.args.out.now c.args.at c.args.n c.loop-left.out c.loop-left.end c.loop-left.left c.loop-left.invariant c.requires
+bounds-out-end c = inside c.loop-left.invariant (omega arith)
 
 pub loop-left-preserved : goal.loop-left-preserved
-loop-left-preserved c =
-    step c.args.out.now c.args.at c.args.n c.loop-left.out c.loop-left.end c.loop-left.left c.loop-left.invariant c.requires c.loop-left-test.true
+loop-left-preserved c = step c.loop-left.invariant (omega arith) c.loop-left-test.true
 
 pub bounds-out-end-2 : goal.bounds-out-end-2
-bounds-out-end-2 c = inside c.args.out.now c.args.at c.args.n c.loop-left.out c.loop-left.end c.loop-left.left c.loop-left.invariant c.requires
+bounds-out-end-2 c = inside c.loop-left.invariant (omega arith)
 
 pub returns : goal.returns
-returns c =
-    let s = stop c.args.out.now c.args.at c.args.n c.loop-left.out c.loop-left.end c.loop-left.left c.loop-left.invariant c.requires c.loop-left-test.false in
-    record { end = s.0; written = s.1 }
+returns c = let s = stop c.loop-left.invariant (omega arith) c.loop-left-test.false in record { size = s.0; text = s.1 }

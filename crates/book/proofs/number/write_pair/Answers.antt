@@ -1,15 +1,15 @@
-use Rattle.std.proofs.Common.{refl, arith, length-append}
+use Rattle.std.proofs.Common.{◌+◌, arith}
 use Rattle.book.specs.Numbers.{number}
 use Rattle.book.proofs.Exact.{second}
+use Rattle.book.proofs.Writes.{put_part}
 use Rattle.book.proofs.number.write_pair.Goals as goal
-
-pub returns-then-out-at : goal.returns-then-out-at
-returns-then-out-at c = (omega (arith, length-append (number c.args.first) (number c.args.second)), refl)
-
-pub returns-then-out-at-2 : goal.returns-then-out-at-2
-returns-then-out-at-2 c = (omega (arith, length-append (number c.args.first) (number c.args.second)), refl)
 
 pub returns : goal.returns
 returns c =
-    second c.args.out.now c.args.at c.args.first c.args.second c.write_number-middle.result c.write_number.result c.write_number-middle.new.out c.write_number.new.out
-    (omega arith) c.write_number-middle.ensures.end c.write_number.ensures.end c.write_number-middle.ensures.written c.write_number.ensures.written
+    let out = c.args.out.now in
+    let at = c.args.at in
+    let a = c.write_number in
+    let b = c.write_number-2 in
+    let x = put_part out at (omega arith) (number c.args.first) a.new.out a.ensures.text in
+    second out at c.args.first c.args.second (at + a.result) (at + a.result + b.result) _ _ (omega arith) (omega (arith, a.ensures.size)) (omega (arith, b.ensures.size)) x
+    (put_part _ (at + a.result) (omega arith) (number c.args.second) b.new.out b.ensures.text)

@@ -1,24 +1,30 @@
-use Rattle.std.proofs.Common.{◌≡◌, ℕ, ◌<◌, ◌≤◌, ◌++◌, length, drop, sym, refl, ap, ◌∙◌, arith}
-use Rattle.book.specs.Book.{encode}
+use Rattle.std.proofs.Common.{ℕ, ◌<◌, ◌≤◌, ◌++◌, length, drop, sym, refl, ap, ◌∙◌, arith}
+use Rattle.book.specs.Book.{encode, fixed_figures, peg_figures, table_numbers, written}
+use Rattle.book.specs.Numbers.{number}
 use Rattle.book.proofs.Sizes.{book_bytes}
-use Rattle.book.proofs.Writes.{book_length, book_text}
+use Rattle.book.proofs.Tables.{book_length, form_first}
+use Rattle.book.proofs.Writes.{finish, first, step}
 use Rattle.book.proofs.writing.write.Goals as goal
 
 pub returns-then-out-number_size : goal.returns-then-out-number_size
 returns-then-out-number_size c =
     let t = c.args.tables.now in
-    let l : length c.args.out.now < length (encode t) = omega (arith, book_length t, c.tally_pegs-pegs.ensures.size, c.tally_fixed-fixed.ensures.size, c.number_size.ensures.is) in
+    let l : length c.args.out.now < length (encode t) = omega (arith, book_length t, c.tally_table-pegs.ensures.size, c.tally_table-fixed.ensures.size, c.number_size.ensures.is) in
     record { writes = (l, refl); short = λ o. omega (arith, l, book_bytes t o) }
 
 pub returns : goal.returns
 returns c =
     let t = c.args.tables.now in
-    let n = book_length t in
-    let fits : length (encode t) ≤ length c.args.out.now = omega (arith, n, c.tally_pegs-pegs.ensures.size, c.tally_fixed-fixed.ensures.size, c.number_size.ensures.is) in
-    let end : c.write_fixed_levels.result ≡ length (encode t) = omega (arith, n, c.write_fixed_levels.ensures.end, c.write_pegs-middle.ensures.end, c.write_number-start.ensures.end) in
-    let text = book_text c.args.out.now t fits c.write_number-start.result c.write_pegs-middle.result c.write_number-start.new.out c.write_pegs-middle.new.out c.write_fixed_levels.new.out
-    c.write_number-start.ensures.written c.write_number-start.ensures.end c.write_pegs-middle.ensures.text c.write_pegs-middle.ensures.end c.write_fixed_levels.ensures.text (omega arith) in
+    let ps = written (table_numbers peg_figures t.pegs) in
+    let xs = written (table_numbers fixed_figures t.fixed) in
+    let fits : length (encode t) ≤ length c.args.out.now = omega (arith, book_length t, c.tally_table-pegs.ensures.size, c.tally_table-fixed.ensures.size, c.number_size.ensures.is) in
+    let n = c.write_number-start in
+    let p = c.write_table in
+    let x = c.write_table-2 in
+    let g = first c.args.out.now (encode t) n.new.out (number 1) (ps ++ xs) n.result (form_first t) fits n.ensures.size n.ensures.text in
+    let h = step g ps xs refl (omega (arith, fits)) p.new.out p.result p.ensures.size p.ensures.text in
+    let s = finish h (omega (arith, fits)) x.new.out x.result x.ensures.size x.ensures.text in
     record {
-      writes = (end, omega (arith, end, fits), text ∙ ap (λ (k : ℕ). encode t ++ drop k c.args.out.now) (sym end));
-      short = λ o. omega (arith, end, book_bytes t o);
+      writes = (s.0, omega (arith, s.0, fits), s.1 ∙ ap (λ (k : ℕ). encode t ++ drop k c.args.out.now) (sym s.0));
+      short = λ o. omega (arith, s.0, book_bytes t o);
     }
