@@ -1,6 +1,6 @@
 // The answers to calls, each told in one line: stable first words, then prose for a person.
 use crate::call::Choice;
-use book::fault::{BookFault, Layer, TooShort};
+use book::fault::{BookFault, TooShort};
 use pegs::edit::EditRefusal;
 use pegs::peg::{FixedLevel, Peg};
 use rules::clause::ClauseNumber;
@@ -141,14 +141,6 @@ fn tell_book<W: fmt::Write>(bytes: &[u8], f: &mut fmt::Formatter<W>) -> fmt::Res
     Ok(())
 }
 
-fn layer_words(layer: Layer) -> &'static str {
-    match layer {
-        Layer::Number => "number",
-        Layer::Entry => "entry",
-        Layer::Book => "book",
-    }
-}
-
 // The first fault of a book, its place and its layer.
 fn tell_fault<W: fmt::Write>(fault: BookFault, f: &mut fmt::Formatter<W>) -> fmt::Result {
     write!(
@@ -156,7 +148,7 @@ fn tell_fault<W: fmt::Write>(fault: BookFault, f: &mut fmt::Formatter<W>) -> fmt
         "refused {} byte {} layer {}: {fault}",
         fault.number(),
         fault.place(),
-        layer_words(fault.layer())
+        fault.layer()
     )
 }
 
