@@ -66,14 +66,14 @@ Answers grade curve by (inquiry.Curve p q s l) r =
 Answers grade curve by (inquiry.Shortest p q s) r =
     MatchResult r (λ a. PointsSound (p ∷ (q ∷ (s ∷ []))) × ShortestTold (curve (bend_of p q s)) a) (λ e. PointsRefused (p ∷ (q ∷ (s ∷ []))) e)
 
--- an answer, or a refusal told as one
-abbrev pub told_of : Result Answer Refusal → Answer
-told_of (Ok a) = a
-told_of (Err e) = answer.Refused e
+-- an answer, or what stands against one, told as one
+abbrev pub told_of : {E : Type 0} → (E → Answer) → Result Answer E → Answer
+told_of tell (Ok a) = a
+told_of tell (Err e) = tell e
 
 -- what is told of an inquiry by a code with these verdicts
 abbrev pub ToldBy : (grade : ℤ → ℕ → ℕ) (curve : Bend → ℕ → ℕ) → Choice → Inquiry → Result Answer Missing → Type 0
-ToldBy grade curve by q r = (s : Result Answer Refusal) × Answers grade curve by q s × (r ≡ Ok (told_of s))
+ToldBy grade curve by q r = (s : Result Answer Refusal) × Answers grade curve by q s × (r ≡ Ok (told_of answer.Refused s))
 
 -- the verdicts of an accepted table
 abbrev pub kept_grade : KeptTable → ℤ → ℕ → ℕ
@@ -93,14 +93,9 @@ AskedBy d choice.TableThenIrc q r =
     MatchOption d.table (r ≡ Err missing.Table) (λ t. MatchOption d.irc (r ≡ Err missing.Irc) (λ c.
     ToldBy (stricter_of (kept_grade t) (irc_grade c.road)) (stricter_of (kept_curve t) (irc_curve c.road)) choice.TableThenIrc q r))
 
--- an answer, or what is missing told as one
-abbrev pub answer_of : Result Answer Missing → Answer
-answer_of (Ok a) = a
-answer_of (Err m) = answer.Missing m
-
 -- an inquiry to the code in use
 abbrev pub Inquired : Desk → Inquiry → Answer → Type 0
-Inquired d q a = MatchOption d.choice (a ≡ answer.Missing missing.Code) (λ c. (r : Result Answer Missing) × AskedBy d c q r × (a ≡ answer_of r))
+Inquired d q a = MatchOption d.choice (a ≡ answer.Missing missing.Code) (λ c. (r : Result Answer Missing) × AskedBy d c q r × (a ≡ told_of answer.Missing r))
 
 -- a desk with nothing on it
 pub record Empty (d : Desk) : Type 0 where

@@ -1,6 +1,7 @@
 // What a job has made so far, and the calls on it.
 ghost use Rattle.std.specs.Prelude.{◌≡◌, ℕ, ◌<◌, ◌≤◌, length, min, IfOk, Ok, Err, MatchOption, MatchResult};
-ghost use Rattle.desk.specs.Desk.{Answers, AsItWas, AskedBy, BookTold, Chosen, EditMade, Empty, Inquired, IrcMade, Made, ReadMade, RowAdded, TableMade, There, ToldBy, answer_of, stands_of, told_of};
+ghost use Rattle.desk.specs.Desk.{Answers, AsItWas, AskedBy, BookTold, Chosen, EditMade, Empty, Inquired, IrcMade, Made, ReadMade, RowAdded, TableMade, There, ToldBy, stands_of, told_of};
+ghost use Rattle.desk.specs.declared.answer.Answer.TheVariants as answer;
 ghost use Rattle.desk.specs.declared.answer.Missing.TheVariants as missing;
 
 use crate::answer::{Answer, Missing, Stands};
@@ -146,14 +147,14 @@ impl Desk {
     }
 
     fn inquire(&self, inquiry: Inquiry) -> Result<Answer, Missing>
-        ensures { Inquired self.now inquiry (answer_of result) }
+        ensures { Inquired self.now inquiry (told_of answer.Missing result) }
     {
         let choice = self.choice.ok_or(Missing::Code)?;
         self.ask_by(choice, inquiry)
     }
 
     fn make_irc(&mut self, figures: RoadFigures) -> Result<Answer, Refusal>
-        ensures { IrcMade self.old figures self.new (told_of result) }
+        ensures { IrcMade self.old figures self.new (told_of answer.Refused result) }
     {
         let irc = Irc::new(figures)?;
         self.irc = Some(irc);
@@ -169,7 +170,7 @@ impl Desk {
 
     // A length table of the rows since the last one. Taken or refused, the next row begins a new list.
     fn make_table(&mut self, heap: Global, bound: u32, clause: u32) -> Result<Answer, Refusal>
-        ensures { TableMade self.old bound clause self.new (told_of result) }
+        ensures { TableMade self.old bound clause self.new (told_of answer.Refused result) }
     {
         let rows = std::mem::replace(&mut self.rows, Vec::new(heap));
         let clause = LengthTable::new(rows.as_slice(), bound, clause)?.clause;
@@ -196,7 +197,7 @@ impl Desk {
     }
 
     fn choose(&mut self, choice: Choice) -> Result<Answer, Missing>
-        ensures { Chosen self.old choice self.new (answer_of result) }
+        ensures { Chosen self.old choice self.new (told_of answer.Missing result) }
     {
         let choice = self.there(choice)?;
         self.choice = Some(choice);
