@@ -1,6 +1,5 @@
 -- What a call does to the desk of a job, and what it answers. Assumes nothing.
-use Rattle.std.specs.Prelude.{◌≡◌, ℕ, ◌%◌, ◌<◌, ◌≤◌, ◌⊎◌, List, [], ◌∷◌, ◌++◌, length, ℤ, Some, None, Ok, Err, vec_items, Result, Vec, IsSomeAnd, MatchOption, MatchResult, ⊤}
-use Rattle.std.specs.declared.alloc.Global.{Global}
+use Rattle.std.specs.Prelude.{◌≡◌, ℕ, ◌%◌, ◌<◌, ◌≤◌, ◌⊎◌, List, [], ◌∷◌, ◌++◌, length, ℤ, Some, None, Ok, Err, vec_items, Result, IsSomeAnd, MatchOption, MatchResult}
 use Rattle.pegs.specs.Tables.{fixed_slot, peg_slot}
 use Rattle.pegs.specs.declared.edit.Edit.{Edit}
 use Rattle.pegs.specs.declared.edit.Edit.TheVariants as edit
@@ -8,7 +7,6 @@ use Rattle.pegs.specs.declared.edit.EditRefusal.{EditRefusal}
 use Rattle.pegs.specs.declared.tables.Tables.{Tables}
 use Rattle.book.specs.Book.{encode}
 use Rattle.book.specs.declared.fault.BookFault.{BookFault}
-use Rattle.book.specs.declared.fault.TooShort.{TooShort}
 use Rattle.profile.specs.Reading.{BookRead}
 use Rattle.profile.specs.Steps.{Applied, New}
 use Rattle.rules.specs.Irc.{irc_curve, irc_grade, IrcRefused}
@@ -20,7 +18,6 @@ use Rattle.rules.specs.Stricter.{stricter_of}
 use Rattle.rules.specs.Tables.{Lawful, TableRefused, table_curve, table_grade}
 use Rattle.rules.specs.Told.{Told}
 use Rattle.rules.specs.Turns.{bend_of}
-use Rattle.rules.specs.declared.irc.Irc.{Irc}
 use Rattle.rules.specs.declared.point.Point.{Point}
 use Rattle.rules.specs.declared.refusal.Refusal.{Refusal}
 use Rattle.rules.specs.declared.refusal.Refusal.TheVariants.{LengthOutOfStep}

@@ -1,4 +1,7 @@
 // The answers to calls, each told in one line: stable first words, then prose for a person.
+ghost use Rattle.std.specs.Prelude.{Some};
+ghost use Rattle.desk.specs.Words.{missing_words, stands_words};
+
 use crate::call::Choice;
 use book::fault::{BookFault, TooShort};
 use pegs::edit::EditRefusal;
@@ -20,6 +23,8 @@ pub enum Missing {
 }
 
 impl fmt::Display for Missing {
+    ghost output = { λ missing. Some (missing_words missing) };
+
     fn fmt<W: fmt::Write>(&self, f: &mut fmt::Formatter<W>) -> fmt::Result {
         f.write_str(match self {
             Missing::Irc => "no IRC code is made yet: make it by irc",
@@ -43,21 +48,30 @@ pub enum Stands {
 }
 
 impl fmt::Display for Stands {
+    ghost output = { λ stands. Some (stands_words stands) };
+
     fn fmt<W: fmt::Write>(&self, f: &mut fmt::Formatter<W>) -> fmt::Result {
         match *self {
-            Stands::Peg {
-                number,
-                held: Some(Peg { station, level }),
-            } => write!(f, "peg {number} stands at station {station}, level {level}"),
-            Stands::Peg { number, held: None } => write!(f, "peg {number} is absent"),
-            Stands::Fixed {
-                number,
-                held: Some(FixedLevel { station, low, high }),
-            } => write!(
-                f,
-                "fixed level {number} asks {low} to {high} at station {station}"
-            ),
-            Stands::Fixed { number, held: None } => write!(f, "fixed level {number} is absent"),
+            Stands::Peg { number, held } => {
+                write!(f, "peg {number} ")?;
+                match held {
+                    Some(Peg { station, level }) => write!(
+                        f,
+                        "stands at station {station}, level {level}"
+                    ),
+                    None => f.write_str("is absent"),
+                }
+            }
+            Stands::Fixed { number, held } => {
+                write!(f, "fixed level {number} ")?;
+                match held {
+                    Some(FixedLevel { station, low, high }) => write!(
+                        f,
+                        "asks {low} to {high} at station {station}"
+                    ),
+                    None => f.write_str("is absent"),
+                }
+            }
         }
     }
 }

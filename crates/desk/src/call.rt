@@ -1,4 +1,7 @@
 // The calls of a job.
+ghost use Rattle.std.specs.Prelude.{Some};
+ghost use Rattle.desk.specs.Words.{choice_words};
+
 use pegs::edit::Edit;
 use rules::point::Point;
 use rules::road::RoadFigures;
@@ -15,6 +18,8 @@ pub enum Choice {
 }
 
 impl fmt::Display for Choice {
+    ghost output = { λ choice. Some (choice_words choice) };
+
     fn fmt<W: fmt::Write>(&self, f: &mut fmt::Formatter<W>) -> fmt::Result {
         f.write_str(match self {
             Choice::Irc => "the IRC code",
