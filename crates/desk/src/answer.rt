@@ -76,6 +76,7 @@ impl fmt::Display for Stands {
     }
 }
 
+// The answer to a call: what it did or found, what the layers below made of it, or what stands against it.
 #[derive(Drop)]
 pub enum Answer {
     Begun,

@@ -50,6 +50,7 @@ pub enum Inquiry {
     },
 }
 
+// A call of a job, with its figures as they came in.
 #[derive(Drop)]
 pub enum Call {
     New,

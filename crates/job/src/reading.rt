@@ -28,6 +28,7 @@ impl<'a> From<AllocError> for Unread<'a> {
     }
 }
 
+// The codes that are named, in their order.
 fn read_choice<'a>(names: &[&'a str]) -> Result<Choice, Misread<'a>> {
     match names {
         ["irc"] => Ok(Choice::Irc),
@@ -46,6 +47,7 @@ fn point(station: u32, level: u32) -> Point {
     Point { station, level }
 }
 
+// An inquiry by its name and figures.
 fn read_inquiry<'a>(name: &'a str, rest: &[&'a str]) -> Result<Inquiry, Misread<'a>> {
     match name {
         "grade" => {
@@ -76,6 +78,7 @@ fn read_inquiry<'a>(name: &'a str, rest: &[&'a str]) -> Result<Inquiry, Misread<
     }
 }
 
+// An edit by its name and figures.
 fn read_edit<'a>(name: &'a str, rest: &[&'a str]) -> Result<Edit, Misread<'a>> {
     match name {
         "place" => {
