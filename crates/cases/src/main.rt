@@ -9,13 +9,7 @@ use std::io::{BufRead, BufReader};
 
 // The wanted words, whole, at the front of the answer.
 fn begins(have: &str, want: &str) -> bool {
-    match have.strip_prefix(want) {
-        Some(rest) => rest.is_empty()
-            || rest.starts_with(' ')
-            || rest.starts_with(':')
-            || rest.starts_with(','),
-        None => false,
-    }
+    have.strip_prefix(want).is_some_and(|rest| rest.is_empty() || rest.starts_with([' ', ':', ',']))
 }
 
 // The answer to a call, as it is printed; empty where there is none.

@@ -1,6 +1,5 @@
 -- What a call does to the desk of a job, and what it answers. Assumes nothing.
-use Rattle.std.specs.Prelude.{◌≡◌, ℕ, ◌%◌, ◌<◌, ◌≤◌, ◌⊎◌, List, [], ◌∷◌, ◌++◌, length, ℤ, Some, None, Ok, Err, vec_items, Result, Vec, MatchOption, MatchResult}
-use Rattle.std.specs.declared.alloc.Global.{Global}
+use Rattle.std.specs.Prelude.{◌≡◌, ℕ, ◌%◌, ◌<◌, ◌≤◌, ◌⊎◌, List, [], ◌∷◌, ◌++◌, length, ℤ, Some, None, Ok, Err, vec_items, Result, IsSomeAnd, MatchOption, MatchResult}
 use Rattle.pegs.specs.Tables.{fixed_slot, peg_slot}
 use Rattle.pegs.specs.declared.edit.Edit.{Edit}
 use Rattle.pegs.specs.declared.edit.Edit.TheVariants as edit
@@ -8,7 +7,6 @@ use Rattle.pegs.specs.declared.edit.EditRefusal.{EditRefusal}
 use Rattle.pegs.specs.declared.tables.Tables.{Tables}
 use Rattle.book.specs.Book.{encode}
 use Rattle.book.specs.declared.fault.BookFault.{BookFault}
-use Rattle.book.specs.declared.fault.TooShort.{TooShort}
 use Rattle.profile.specs.Reading.{BookRead}
 use Rattle.profile.specs.Steps.{Applied, New}
 use Rattle.rules.specs.Irc.{irc_curve, irc_grade, IrcRefused}
@@ -18,8 +16,8 @@ use Rattle.rules.specs.Shortest.{NonePasses, ShortestPassing}
 use Rattle.rules.specs.Speeds.{asked, design_speed}
 use Rattle.rules.specs.Stricter.{stricter_of}
 use Rattle.rules.specs.Tables.{Lawful, TableRefused, table_curve, table_grade}
+use Rattle.rules.specs.Told.{Told}
 use Rattle.rules.specs.Turns.{bend_of}
-use Rattle.rules.specs.declared.irc.Irc.{Irc}
 use Rattle.rules.specs.declared.point.Point.{Point}
 use Rattle.rules.specs.declared.refusal.Refusal.{Refusal}
 use Rattle.rules.specs.declared.refusal.Refusal.TheVariants.{LengthOutOfStep}
@@ -45,27 +43,34 @@ use Rattle.desk.specs.declared.answer.Missing.TheVariants as missing
 abbrev pub CurveRefused : List Point → ℕ → Refusal → Type 0
 CurveRefused ps l e = PointsRefused ps e ⊎ (PointsSound ps × (e ≡ LengthOutOfStep) × (l % 5 ≡ 0 → l ≤ 2000 → ⊥))
 
+-- a verdict, and the code that it is by
+abbrev pub VerdictTold : ℕ → Choice → Answer → Type 0
+VerdictTold verdict by (answer.Verdict v c) = Told verdict v × (c ≡ by)
+VerdictTold verdict by _ = ⊥
+
 -- the shortest length that passes, or that none does
 abbrev pub ShortestTold : (ℕ → ℕ) → Answer → Type 0
-ShortestTold verdict a = ((l : ℕ) × (a ≡ answer.Shortest l) × ShortestPassing verdict l) ⊎ ((a ≡ answer.NoLength (verdict 2000)) × NonePasses verdict)
+ShortestTold verdict (answer.Shortest (Ok l)) = ShortestPassing verdict l.metres
+ShortestTold verdict (answer.Shortest (Err none)) = NonePasses verdict × (none.clause.number ≡ verdict 2000)
+ShortestTold verdict _ = ⊥
 
 -- what a code with these verdicts answers to an inquiry
 abbrev pub Answers : (grade : ℤ → ℕ → ℕ) (curve : Bend → ℕ → ℕ) → Choice → Inquiry → Result Answer Refusal → Type 0
 Answers grade curve by (inquiry.Grade p q) r =
-    MatchResult r (λ a. PointsSound (p ∷ (q ∷ [])) × (a ≡ answer.Verdict (grade (rise p q) (run p q)) by)) (λ e. PointsRefused (p ∷ (q ∷ [])) e)
+    MatchResult r (λ a. PointsSound (p ∷ (q ∷ [])) × VerdictTold (grade (rise p q) (run p q)) by a) (λ e. PointsRefused (p ∷ (q ∷ [])) e)
 Answers grade curve by (inquiry.Curve p q s l) r =
-    MatchResult r (λ a. PointsSound (p ∷ (q ∷ (s ∷ []))) × (a ≡ answer.Verdict (curve (bend_of p q s) l) by)) (λ e. CurveRefused (p ∷ (q ∷ (s ∷ []))) l e)
+    MatchResult r (λ a. PointsSound (p ∷ (q ∷ (s ∷ []))) × VerdictTold (curve (bend_of p q s) l) by a) (λ e. CurveRefused (p ∷ (q ∷ (s ∷ []))) l e)
 Answers grade curve by (inquiry.Shortest p q s) r =
     MatchResult r (λ a. PointsSound (p ∷ (q ∷ (s ∷ []))) × ShortestTold (curve (bend_of p q s)) a) (λ e. PointsRefused (p ∷ (q ∷ (s ∷ []))) e)
 
--- an answer, or a refusal told as one
-abbrev pub told_of : Result Answer Refusal → Answer
-told_of (Ok a) = a
-told_of (Err e) = answer.Refused e
+-- an answer, or what stands against one, told as one
+abbrev pub told_of : {E : Type 0} → (E → Answer) → Result Answer E → Answer
+told_of tell (Ok a) = a
+told_of tell (Err e) = tell e
 
 -- what is told of an inquiry by a code with these verdicts
 abbrev pub ToldBy : (grade : ℤ → ℕ → ℕ) (curve : Bend → ℕ → ℕ) → Choice → Inquiry → Result Answer Missing → Type 0
-ToldBy grade curve by q r = (s : Result Answer Refusal) × Answers grade curve by q s × (r ≡ Ok (told_of s))
+ToldBy grade curve by q r = (s : Result Answer Refusal) × Answers grade curve by q s × (r ≡ Ok (told_of answer.Refused s))
 
 -- the verdicts of an accepted table
 abbrev pub kept_grade : KeptTable → ℤ → ℕ → ℕ
@@ -85,14 +90,9 @@ AskedBy d choice.TableThenIrc q r =
     MatchOption d.table (r ≡ Err missing.Table) (λ t. MatchOption d.irc (r ≡ Err missing.Irc) (λ c.
     ToldBy (stricter_of (kept_grade t) (irc_grade c.road)) (stricter_of (kept_curve t) (irc_curve c.road)) choice.TableThenIrc q r))
 
--- an answer, or what is missing told as one
-abbrev pub answer_of : Result Answer Missing → Answer
-answer_of (Ok a) = a
-answer_of (Err m) = answer.Missing m
-
 -- an inquiry to the code in use
 abbrev pub Inquired : Desk → Inquiry → Answer → Type 0
-Inquired d q a = MatchOption d.choice (a ≡ answer.Missing missing.Code) (λ c. (r : Result Answer Missing) × AskedBy d c q r × (a ≡ answer_of r))
+Inquired d q a = MatchOption d.choice (a ≡ answer.Missing missing.Code) (λ c. (r : Result Answer Missing) × AskedBy d c q r × (a ≡ told_of answer.Missing r))
 
 -- a desk with nothing on it
 pub record Empty (d : Desk) : Type 0 where
@@ -112,9 +112,9 @@ pub record AsItWas (d d' : Desk) : Type 0 where
 
 -- a code of the standard, or the refusal and the desk as it was
 abbrev pub IrcMade : Desk → RoadFigures → Desk → Answer → Type 0
-IrcMade d f d' a =
-    ((c : Irc) × Named f c.road × (a ≡ answer.Road (asked (design_speed c.road))) × (d' ≡ record { profile = d.profile; irc = Some c; rows = d.rows; table = d.table; choice = d.choice }))
-    ⊎ ((e : Refusal) × IrcRefused f e × (a ≡ answer.Refused e) × (d' ≡ d))
+IrcMade d f d' (answer.Road s) = IsSomeAnd d'.irc (λ c. Named f c.road × (s ≡ asked (design_speed c.road))) × (d' ≡ record d { irc = d'.irc })
+IrcMade d f d' (answer.Refused e) = IrcRefused f e × (d' ≡ d)
+IrcMade d f d' _ = ⊥
 
 -- one row more
 pub record RowAdded (d : Desk) (row : Row) (d' : Desk) (a : Answer) : Type 0 where
@@ -127,10 +127,11 @@ pub record RowAdded (d : Desk) (row : Row) (d' : Desk) (a : Answer) : Type 0 whe
 
 -- a table of the rows, or the refusal and the table as it was
 abbrev pub TableOutcome : Desk → (bound clause : ℕ) → Desk → Answer → Type 0
-TableOutcome d bound clause d' a =
-    ((t : KeptTable) × Lawful (vec_items d.rows) bound clause × (d'.table ≡ Some t) × (vec_items t.rows ≡ vec_items d.rows)
-    × (t.bound ≡ bound) × (t.clause ≡ clause) × (a ≡ answer.Table (length (vec_items d.rows))))
-    ⊎ ((e : Refusal) × TableRefused (vec_items d.rows) bound clause e × (a ≡ answer.Refused e) × (d'.table ≡ d.table))
+TableOutcome d bound clause d' (answer.Table n) =
+    IsSomeAnd d'.table (λ t. Lawful (vec_items d.rows) bound clause × (vec_items t.rows ≡ vec_items d.rows) × (t.bound ≡ bound) × (t.clause ≡ clause))
+    × (n ≡ length (vec_items d.rows))
+TableOutcome d bound clause d' (answer.Refused e) = TableRefused (vec_items d.rows) bound clause e × (d'.table ≡ d.table)
+TableOutcome d bound clause d' _ = ⊥
 
 -- taken or refused, a table ends the list of rows
 pub record TableMade (d : Desk) (bound clause : ℕ) (d' : Desk) (a : Answer) : Type 0 where
@@ -149,9 +150,9 @@ There d choice.TableThenIrc r = MatchOption d.table (r ≡ Err missing.Table) (�
 
 -- a choice in use, or what is missing and the desk as it was
 abbrev pub Chosen : Desk → Choice → Desk → Answer → Type 0
-Chosen d c d' a =
-    (There d c (Ok c) × (a ≡ answer.InUse c) × (d' ≡ record { profile = d.profile; irc = d.irc; rows = d.rows; table = d.table; choice = Some c }))
-    ⊎ ((m : Missing) × There d c (Err m) × (a ≡ answer.Missing m) × (d' ≡ d))
+Chosen d c d' (answer.InUse c') = There d c (Ok c) × (c' ≡ c) × (d' ≡ record d { choice = Some c })
+Chosen d c d' (answer.Missing m) = There d c (Err m) × (d' ≡ d)
+Chosen d c d' _ = ⊥
 
 -- what stands under the number that an edit names
 abbrev pub stands_of : Edit → Tables → Stands
@@ -160,41 +161,25 @@ stands_of (edit.Lift n s) t = stands.Peg n (peg_slot t n).held
 stands_of (edit.Fix n s st l h) t = stands.Fixed n (fixed_slot t n).held
 stands_of (edit.Clear n s) t = stands.Fixed n (fixed_slot t n).held
 
--- the edit was taken or refused, and what stands now
-abbrev pub edit_answer : Result (Unit {0}) EditRefusal → Stands → Answer
-edit_answer (Ok u) s = answer.Edited s
-edit_answer (Err x) s = answer.EditRefused x s
-
--- the profile moves by the edit, and all else stays
+-- the profile moves by the edit, taken or refused, and all else stays
 pub record EditMade (d : Desk) (e : Edit) (d' : Desk) (a : Answer) : Type 0 where
   pub reply : Result (Unit {0}) EditRefusal
   pub profile : Applied e d.profile d'.profile reply
-  pub told : a ≡ edit_answer reply (stands_of e d'.profile.tables)
-  pub irc : d'.irc ≡ d.irc
-  pub rows : d'.rows ≡ d.rows
-  pub table : d'.table ≡ d.table
-  pub choice : d'.choice ≡ d.choice
+  pub told : a ≡ answer.Edited reply (stands_of e d'.profile.tables)
+  pub rest : d' ≡ record d { profile = d'.profile }
 
 -- the bytes of the book, where the buffer is long enough for them
 abbrev pub BookTold : Tables → ℕ → Answer → Type 0
-BookTold t size a =
-    ((v : Vec ℕ Global) × (a ≡ answer.Book v) × (vec_items v ≡ encode t) × (length (encode t) ≤ size))
-    ⊎ ((short : TooShort) × (a ≡ answer.BookTooShort short) × (size < length (encode t)))
+BookTold t size (answer.Book (Ok v)) = (vec_items v ≡ encode t) × (length (encode t) ≤ size)
+BookTold t size (answer.Book (Err _)) = size < length (encode t)
+BookTold t size _ = ⊥
 
--- a book was accepted, or its first fault is told
-abbrev pub read_answer : Result (Unit {0}) BookFault → Answer
-read_answer (Ok u) = answer.BookRead
-read_answer (Err x) = answer.BookRefused x
-
--- the profile moves by the book, and all else stays
+-- the profile moves by the book, accepted or refused, and all else stays
 pub record ReadMade (d : Desk) (bytes : List ℕ) (d' : Desk) (a : Answer) : Type 0 where
   pub reply : Result (Unit {0}) BookFault
   pub profile : BookRead bytes d.profile d'.profile reply
-  pub told : a ≡ read_answer reply
-  pub irc : d'.irc ≡ d.irc
-  pub rows : d'.rows ≡ d.rows
-  pub table : d'.table ≡ d.table
-  pub choice : d'.choice ≡ d.choice
+  pub told : a ≡ answer.BookRead reply
+  pub rest : d' ≡ record d { profile = d'.profile }
 
 -- what a call does to the desk, and what it answers
 abbrev pub Made : Desk → Call → Desk → Answer → Type 0

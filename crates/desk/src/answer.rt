@@ -1,10 +1,18 @@
-// The answers to calls.
+// The answers to calls, each told in one line: stable first words, then prose for a person.
+ghost use Rattle.std.specs.Prelude.{Some};
+ghost use Rattle.desk.specs.Words.{missing_words, stands_words};
+
 use crate::call::Choice;
 use book::fault::{BookFault, TooShort};
 use pegs::edit::EditRefusal;
 use pegs::peg::{FixedLevel, Peg};
+use rules::clause::ClauseNumber;
+use rules::irc::Clause;
+use rules::length::Length;
 use rules::refusal::Refusal;
+use rules::shortest::NoLength;
 use rules::speeds::Asked;
+use std::fmt;
 
 // What a call needs and the job has not made yet.
 #[derive(Clone, Copy)]
@@ -12,6 +20,18 @@ pub enum Missing {
     Irc,
     Table,
     Code,
+}
+
+impl fmt::Display for Missing {
+    ghost output = { λ missing. Some (missing_words missing) };
+
+    fn fmt<W: fmt::Write>(&self, f: &mut fmt::Formatter<W>) -> fmt::Result {
+        f.write_str(match self {
+            Missing::Irc => "no IRC code is made yet: make it by irc",
+            Missing::Table => "no length table is made yet: make it by table",
+            Missing::Code => "no code is in use yet: name it by use",
+        })
+    }
 }
 
 // What stands under a number.
@@ -27,6 +47,36 @@ pub enum Stands {
     },
 }
 
+impl fmt::Display for Stands {
+    ghost output = { λ stands. Some (stands_words stands) };
+
+    fn fmt<W: fmt::Write>(&self, f: &mut fmt::Formatter<W>) -> fmt::Result {
+        match *self {
+            Stands::Peg { number, held } => {
+                write!(f, "peg {number} ")?;
+                match held {
+                    Some(Peg { station, level }) => write!(
+                        f,
+                        "stands at station {station}, level {level}"
+                    ),
+                    None => f.write_str("is absent"),
+                }
+            }
+            Stands::Fixed { number, held } => {
+                write!(f, "fixed level {number} ")?;
+                match held {
+                    Some(FixedLevel { station, low, high }) => write!(
+                        f,
+                        "asks {low} to {high} at station {station}"
+                    ),
+                    None => f.write_str("is absent"),
+                }
+            }
+        }
+    }
+}
+
+// The answer to a call: what it did or found, what the layers below made of it, or what stands against it.
 #[derive(Drop)]
 pub enum Answer {
     Begun,
@@ -35,24 +85,124 @@ pub enum Answer {
     Table(usize),
     InUse(Choice),
     Verdict {
-        clause: u8,
+        verdict: Result<(), ClauseNumber>,
         by: Choice,
     },
-    Shortest {
-        metres: u32,
-    },
-    NoLength {
-        clause: u8,
-    },
-    Edited(Stands),
-    EditRefused {
-        refusal: EditRefusal,
+    Shortest(Result<Length, NoLength>),
+    Edited {
+        outcome: Result<(), EditRefusal>,
         stands: Stands,
     },
-    Book(Vec<u8>),
-    BookTooShort(TooShort),
-    BookRead,
-    BookRefused(BookFault),
+    Book(Result<Vec<u8>, TooShort>),
+    BookRead(Result<(), BookFault>),
     Refused(Refusal),
     Missing(Missing),
+}
+
+// What a road's design speed asks.
+fn tell_road<W: fmt::Write>(asked: Asked, f: &mut fmt::Formatter<W>) -> fmt::Result {
+    let Asked {
+        kmh,
+        stopping,
+        overtaking,
+        free_change,
+        least_length,
+    } = asked;
+    write!(f, "ok: {kmh} km/h, stopping sight {stopping} m, ")?;
+    match overtaking {
+        Some(distance) => write!(f, "overtaking sight {distance} m, ")?,
+        None => f.write_str("no overtaking sight, ")?,
+    }
+    write!(
+        f,
+        "free change {free_change} per 1000, least length {least_length} m"
+    )
+}
+
+// The standard's clauses are told in words; an office knows its own.
+fn tell_verdict<W: fmt::Write>(
+    verdict: Result<(), ClauseNumber>,
+    by: Choice,
+    f: &mut fmt::Formatter<W>,
+) -> fmt::Result {
+    let Err(ClauseNumber { number }) = verdict else {
+        return f.write_str("ok clause 0: passed");
+    };
+    match (by, Clause::try_from(number)) {
+        (Choice::Irc, Ok(clause)) => write!(f, "ok clause {number}: {clause}"),
+        _ => write!(f, "ok clause {number}: not passed"),
+    }
+}
+
+// A late edit is told with what stands instead.
+fn tell_edit_refused<W: fmt::Write>(
+    refusal: EditRefusal,
+    stands: Stands,
+    f: &mut fmt::Formatter<W>,
+) -> fmt::Result {
+    write!(f, "refused {}: {refusal}", refusal.number())?;
+    match refusal {
+        EditRefusal::SequenceLower | EditRefusal::SequenceEqual => write!(f, "; {stands}"),
+        _ => Ok(()),
+    }
+}
+
+// The bytes of a book in hexadecimal.
+fn tell_book<W: fmt::Write>(bytes: &[u8], f: &mut fmt::Formatter<W>) -> fmt::Result {
+    write!(f, "ok {} ", bytes.len())?;
+    for byte in bytes {
+        write!(f, "{byte:02x}")?;
+    }
+    Ok(())
+}
+
+// The first fault of a book, its place and its layer.
+fn tell_fault<W: fmt::Write>(fault: BookFault, f: &mut fmt::Formatter<W>) -> fmt::Result {
+    write!(
+        f,
+        "refused {} byte {} layer {}: {fault}",
+        fault.number(),
+        fault.place(),
+        fault.layer()
+    )
+}
+
+impl fmt::Display for Answer {
+    fn fmt<W: fmt::Write>(&self, f: &mut fmt::Formatter<W>) -> fmt::Result {
+        match *self {
+            Answer::Begun => f.write_str("ok: a new job: no pegs, no fixed levels, no code"),
+            Answer::Road(asked) => tell_road(asked, f),
+            Answer::Rows(count) => write!(f, "ok: rows for the next table: {count}"),
+            Answer::Table(count) => write!(f, "ok: rows in the length table: {count}"),
+            Answer::InUse(choice) => write!(f, "ok: {choice}"),
+            Answer::Verdict { verdict, by } => tell_verdict(verdict, by, f),
+            Answer::Shortest(Ok(Length { metres })) => write!(
+                f,
+                "ok length {metres}: the shortest that passes"
+            ),
+            Answer::Shortest(
+                Err(
+                    NoLength {
+                        clause: ClauseNumber { number },
+                    },
+                ),
+            ) => write!(f, "none clause {number}: no length up to 2000 m passes"),
+            Answer::Edited {
+                outcome: Ok(()),
+                stands,
+            } => write!(f, "ok: {stands}"),
+            Answer::Edited {
+                outcome: Err(refusal),
+                stands,
+            } => tell_edit_refused(refusal, stands, f),
+            Answer::Book(Ok(ref bytes)) => tell_book(bytes.as_slice(), f),
+            Answer::Book(Err(short)) => write!(f, "refused {}: {short}", short.number()),
+            Answer::BookRead(Ok(())) => f.write_str(
+                "ok: the book stands in place of all before it",
+            ),
+            Answer::BookRead(Err(fault)) => tell_fault(fault, f),
+            Answer::Refused(refusal) => write!(f, "refused {}: {refusal}", refusal.number()),
+            Answer::Missing(missing) => write!(f, "not understood: {missing}"),
+        }
+    }
 }

@@ -1,12 +1,11 @@
 // What a job has made so far, and the calls on it.
-ghost use Rattle.std.specs.Prelude.{◌≡◌, ◌<◌, ◌≤◌, length, IfOk, Ok, Err, MatchOption, MatchResult};
-ghost use Rattle.book.specs.Book.{encode};
-ghost use Rattle.desk.specs.Desk.{Answers, AsItWas, AskedBy, BookTold, Chosen, EditMade, Empty, Inquired, IrcMade, Made, ReadMade, RowAdded, TableMade, There, stands_of, told_of};
+ghost use Rattle.std.specs.Prelude.{◌≡◌, ℕ, ◌<◌, ◌≤◌, length, min, IfOk, Ok, Err, MatchOption, MatchResult};
+ghost use Rattle.desk.specs.Desk.{Answers, AsItWas, AskedBy, BookTold, Chosen, EditMade, Empty, Inquired, IrcMade, Made, ReadMade, RowAdded, TableMade, There, ToldBy, stands_of, told_of};
+ghost use Rattle.desk.specs.declared.answer.Answer.TheVariants as answer;
 ghost use Rattle.desk.specs.declared.answer.Missing.TheVariants as missing;
 
 use crate::answer::{Answer, Missing, Stands};
 use crate::call::{Call, Choice, Inquiry};
-use book::fault::TooShort;
 use pegs::edit::Edit;
 use profile::profile::Profile;
 use rules::code::RoadCode;
@@ -39,15 +38,15 @@ pub struct Desk {
     choice: Option<Choice>,
 }
 
-// What a code answers to an inquiry, or the first reason against the inquiry's figures.
-fn ask<C: RoadCode>(code: &C, by: Choice, inquiry: Inquiry) -> Result<Answer, Refusal>
+// What a code judges of an inquiry, or the first reason against the inquiry's figures.
+fn judge<C: RoadCode>(code: &C, by: Choice, inquiry: Inquiry) -> Result<Answer, Refusal>
     ensures { Answers (C.grade_verdict code.now) (C.curve_verdict code.now) by inquiry result }
 {
     match inquiry {
         Inquiry::Grade { from, to } => {
             let grade = Grade::between(from, to)?;
-            let clause = code.grade(grade);
-            Ok(Answer::Verdict { clause, by })
+            let verdict = code.grade(grade);
+            Ok(Answer::Verdict { verdict, by })
         }
         Inquiry::Curve {
             before,
@@ -57,43 +56,30 @@ fn ask<C: RoadCode>(code: &C, by: Choice, inquiry: Inquiry) -> Result<Answer, Re
         } => {
             let turn = Turn::through(before, at, after)?;
             let length = Length::new(length)?;
-            let clause = code.curve(turn, length);
-            Ok(Answer::Verdict { clause, by })
+            let verdict = code.curve(turn, length);
+            Ok(Answer::Verdict { verdict, by })
         }
         Inquiry::Shortest { before, at, after } => {
             let turn = Turn::through(before, at, after)?;
-            match shortest(code, turn) {
-                Ok(length) => Ok(Answer::Shortest {
-                    metres: length.metres,
-                }),
-                Err(none) => Ok(Answer::NoLength {
-                    clause: none.clause,
-                }),
-            }
+            Ok(Answer::Shortest(shortest(code, turn)))
         }
     }
 }
 
-fn told(answer: Result<Answer, Refusal>) -> Answer
-    ensures { result ≡ told_of answer }
+// What a code answers to an inquiry.
+fn ask<C: RoadCode>(code: &C, by: Choice, inquiry: Inquiry) -> Answer
+    ensures { ToldBy (C.grade_verdict code.now) (C.curve_verdict code.now) by inquiry (Ok result) }
 {
-    match answer {
-        Ok(answer) => answer,
-        Err(refusal) => Answer::Refused(refusal),
-    }
+    judge(code, by, inquiry).unwrap_or_else(Answer::Refused)
 }
 
-// The bytes of a profile's book, written by way of a buffer.
-fn copy_book(
-    heap: Global,
-    profile: &Profile,
-    out: &mut [u8],
-) -> Result<Result<Vec<u8>, TooShort>, AllocError>
-    ensures { IfOk result (λ x. MatchResult x (λ v. (v.items ≡ encode profile.now.tables) × (length (encode profile.now.tables) ≤ length out.old)) (λ _. (length out.old < length (encode profile.now.tables)) × (length out.old < 795))) }
+// A profile's book, copied from a buffer of the length that is asked for, or of 795 bytes.
+fn copy_book(heap: Global, profile: &Profile, out: &mut [u8]) -> Result<Answer, AllocError>
+    ensures { IfOk result (λ a. (size : ℕ) → length out.old ≡ min size 795 → BookTold profile.now.tables size a) }
 {
     match profile.write_book(out) {
-        Ok(count) => Ok(Ok(Vec::from_slice(heap, &out[0..count])?)),
-        Err(short) => Ok(Err(short)),
+        Ok(count) => Ok(Answer::Book(Ok(Vec::from_slice(heap, &out[..count])?))),
+        Err(short) => Ok(Answer::Book(Err(short))),
     }
 }
 
@@ -125,72 +111,54 @@ impl Desk {
         }
     }
 
-    // The inquiry put to the code that the choice names.
-    fn ask_by(&self, choice: Choice, inquiry: Inquiry) -> Result<Answer, Missing>
-        ensures { AskedBy self.now choice inquiry result }
-    {
-        match choice {
-            Choice::Irc => {
-                let code = self.irc_made()?;
-                Ok(told(ask(&code, choice, inquiry)))
-            }
-            Choice::Table => {
-                let code = self.table_made()?;
-                Ok(told(ask(&code, choice, inquiry)))
-            }
-            Choice::IrcThenTable => {
-                let first = self.irc_made()?;
-                let second = self.table_made()?;
-                Ok(told(ask(&Stricter { first, second }, choice, inquiry)))
-            }
-            Choice::TableThenIrc => {
-                let first = self.table_made()?;
-                let second = self.irc_made()?;
-                Ok(told(ask(&Stricter { first, second }, choice, inquiry)))
-            }
-        }
-    }
-
     fn irc_made(&self) -> Result<Irc, Missing>
         ensures { MatchOption self.now.irc (result ≡ Err missing.Irc) (λ c. result ≡ Ok c) }
     {
-        match self.irc {
-            Some(irc) => Ok(irc),
-            None => Err(Missing::Irc),
-        }
+        self.irc.ok_or(Missing::Irc)
     }
 
     fn table_made(&self) -> Result<LengthTable<'_>, Missing>
         ensures { MatchOption self.now.table (result ≡ Err missing.Table) (λ t. MatchResult result (λ c. (c.rows.now ≡ t.rows.items) × (c.bound ≡ t.bound) × (c.clause ≡ t.clause)) (λ _. ⊥)) }
     {
-        match &self.table {
-            Some(kept) => Ok(kept.code()),
-            None => Err(Missing::Table),
-        }
+        self.table
+            .as_ref()
+            .map(KeptTable::code)
+            .ok_or(Missing::Table)
     }
 
-    fn inquire(&self, inquiry: Inquiry) -> Answer
-        ensures { Inquired self.now inquiry result }
+    // The inquiry put to the code that the choice names.
+    fn ask_by(&self, choice: Choice, inquiry: Inquiry) -> Result<Answer, Missing>
+        ensures { AskedBy self.now choice inquiry result }
     {
-        let Some(choice) = self.choice else {
-            return Answer::Missing(Missing::Code);
-        };
-        match self.ask_by(choice, inquiry) {
-            Ok(answer) => answer,
-            Err(missing) => Answer::Missing(missing),
-        }
-    }
-
-    fn make_irc(&mut self, figures: RoadFigures) -> Answer
-        ensures { IrcMade self.old figures self.new result }
-    {
-        match Irc::new(figures) {
-            Ok(irc) => {
-                self.irc = Some(irc);
-                Answer::Road(irc.asked())
+        match choice {
+            Choice::Irc => Ok(ask(&self.irc_made()?, choice, inquiry)),
+            Choice::Table => Ok(ask(&self.table_made()?, choice, inquiry)),
+            Choice::IrcThenTable => {
+                let first = self.irc_made()?;
+                let second = self.table_made()?;
+                Ok(ask(&Stricter { first, second }, choice, inquiry))
             }
-            Err(refusal) => Answer::Refused(refusal),
+            Choice::TableThenIrc => {
+                let first = self.table_made()?;
+                let second = self.irc_made()?;
+                Ok(ask(&Stricter { first, second }, choice, inquiry))
+            }
         }
+    }
+
+    fn inquire(&self, inquiry: Inquiry) -> Result<Answer, Missing>
+        ensures { Inquired self.now inquiry (told_of answer.Missing result) }
+    {
+        let choice = self.choice.ok_or(Missing::Code)?;
+        self.ask_by(choice, inquiry)
+    }
+
+    fn make_irc(&mut self, figures: RoadFigures) -> Result<Answer, Refusal>
+        ensures { IrcMade self.old figures self.new (told_of answer.Refused result) }
+    {
+        let irc = Irc::new(figures)?;
+        self.irc = Some(irc);
+        Ok(Answer::Road(irc.asked()))
     }
 
     fn add_row(&mut self, row: Row) -> Result<Answer, AllocError>
@@ -201,56 +169,39 @@ impl Desk {
     }
 
     // A length table of the rows since the last one. Taken or refused, the next row begins a new list.
-    fn make_table(&mut self, heap: Global, bound: u32, clause: u32) -> Answer
-        ensures { TableMade self.old bound clause self.new result }
+    fn make_table(&mut self, heap: Global, bound: u32, clause: u32) -> Result<Answer, Refusal>
+        ensures { TableMade self.old bound clause self.new (told_of answer.Refused result) }
     {
         let rows = std::mem::replace(&mut self.rows, Vec::new(heap));
-        let clause = match LengthTable::new(rows.as_slice(), bound, clause) {
-            Ok(table) => table.clause,
-            Err(refusal) => return Answer::Refused(refusal),
-        };
+        let clause = LengthTable::new(rows.as_slice(), bound, clause)?.clause;
         let count = rows.len();
         self.table = Some(KeptTable {
             rows,
             bound,
             clause,
         });
-        Answer::Table(count)
+        Ok(Answer::Table(count))
     }
 
     // The choice, if the codes that it names are there.
+    // stays: a switch beside that of `ask_by`: an enum of the codes in use that is a code itself needs three, one to make it and one for each verdict
     fn there(&self, choice: Choice) -> Result<Choice, Missing>
         ensures { There self.now choice result }
     {
         match choice {
-            Choice::Irc => {
-                self.irc_made()?;
-            }
-            Choice::Table => {
-                self.table_made()?;
-            }
-            Choice::IrcThenTable => {
-                self.irc_made()?;
-                self.table_made()?;
-            }
-            Choice::TableThenIrc => {
-                self.table_made()?;
-                self.irc_made()?;
-            }
+            Choice::Irc => self.irc_made().map(|_| choice),
+            Choice::Table => self.table_made().map(|_| choice),
+            Choice::IrcThenTable => self.irc_made().and(self.table_made()).map(|_| choice),
+            Choice::TableThenIrc => self.table_made().and(self.irc_made()).map(|_| choice),
         }
-        Ok(choice)
     }
 
-    fn choose(&mut self, choice: Choice) -> Answer
-        ensures { Chosen self.old choice self.new result }
+    fn choose(&mut self, choice: Choice) -> Result<Answer, Missing>
+        ensures { Chosen self.old choice self.new (told_of answer.Missing result) }
     {
-        match self.there(choice) {
-            Ok(choice) => {
-                self.choice = Some(choice);
-                Answer::InUse(choice)
-            }
-            Err(missing) => Answer::Missing(missing),
-        }
+        let choice = self.there(choice)?;
+        self.choice = Some(choice);
+        Ok(Answer::InUse(choice))
     }
 
     // What stands under the number that an edit names.
@@ -258,19 +209,11 @@ impl Desk {
         ensures { result ≡ stands_of edit self.now.profile.tables }
     {
         match edit {
-            Edit::Place { number, .. } => Stands::Peg {
+            Edit::Place { number, .. } | Edit::Lift { number, .. } => Stands::Peg {
                 number,
                 held: self.profile.peg(number),
             },
-            Edit::Lift { number, .. } => Stands::Peg {
-                number,
-                held: self.profile.peg(number),
-            },
-            Edit::Fix { number, .. } => Stands::Fixed {
-                number,
-                held: self.profile.fixed_level(number),
-            },
-            Edit::Clear { number, .. } => Stands::Fixed {
+            Edit::Fix { number, .. } | Edit::Clear { number, .. } => Stands::Fixed {
                 number,
                 held: self.profile.fixed_level(number),
             },
@@ -280,13 +223,9 @@ impl Desk {
     fn edit(&mut self, edit: Edit) -> Answer
         ensures { EditMade self.old edit self.new result }
     {
-        match self.profile.apply(edit) {
-            Ok(()) => Answer::Edited(self.standing(edit)),
-            Err(refusal) => Answer::EditRefused {
-                refusal,
-                stands: self.standing(edit),
-            },
-        }
+        let outcome = self.profile.apply(edit);
+        let stands = self.standing(edit);
+        Answer::Edited { outcome, stands }
     }
 
     // The book in a buffer of so many bytes. No book has more than 795, so no more are set aside.
@@ -295,20 +234,13 @@ impl Desk {
     {
         let mut buffer = [0u8; 795];
         let room = size.min(795) as usize;
-        match copy_book(heap, &self.profile, &mut buffer[0..room]) {
-            Ok(Ok(bytes)) => Ok(Answer::Book(bytes)),
-            Ok(Err(short)) => Ok(Answer::BookTooShort(short)),
-            Err(error) => Err(error),
-        }
+        copy_book(heap, &self.profile, &mut buffer[..room])
     }
 
     fn read(&mut self, bytes: &[u8]) -> Answer
         ensures { ReadMade self.old bytes.now self.new result }
     {
-        match self.profile.read_book(bytes) {
-            Ok(()) => Answer::BookRead,
-            Err(fault) => Answer::BookRefused(fault),
-        }
+        Answer::BookRead(self.profile.read_book(bytes))
     }
 
     // Makes the call. Where memory for a row is wanting, the desk stays as it was.
@@ -320,11 +252,14 @@ impl Desk {
                 *self = Desk::new(heap);
                 Ok(Answer::Begun)
             }
-            Call::Irc(figures) => Ok(self.make_irc(figures)),
+            Call::Irc(figures) => Ok(self.make_irc(figures).unwrap_or_else(Answer::Refused)),
             Call::Row(row) => self.add_row(row),
-            Call::Table { bound, clause } => Ok(self.make_table(heap, bound, clause)),
-            Call::Use(choice) => Ok(self.choose(choice)),
-            Call::Ask(inquiry) => Ok(self.inquire(inquiry)),
+            Call::Table { bound, clause } => Ok(
+                self.make_table(heap, bound, clause)
+                    .unwrap_or_else(Answer::Refused),
+            ),
+            Call::Use(choice) => Ok(self.choose(choice).unwrap_or_else(Answer::Missing)),
+            Call::Ask(inquiry) => Ok(self.inquire(inquiry).unwrap_or_else(Answer::Missing)),
             Call::Edit(edit) => Ok(self.edit(edit)),
             Call::Book { size } => self.book(heap, size),
             Call::Read(bytes) => Ok(self.read(bytes.as_slice())),

@@ -9,16 +9,11 @@ use std::fs::File;
 use std::io::{BufRead, BufReader};
 
 // Each line that is a call gets its number and its answer.
-fn answer_all<I: BufRead + Drop>(rt: &HostRuntime, mut input: I) -> anyhow::Result<()> {
+fn answer_all<I: BufRead + Drop>(rt: &HostRuntime, input: I) -> anyhow::Result<()> {
     let heap = rt.alloc();
     let mut desk = Desk::new(heap);
-    let mut line = Vec::new(heap);
-    for number in 1..u64::MAX {
-        line.clear();
-        if input.read_until(b'\n', &mut line)? == 0 {
-            break;
-        }
-        if let Some(reply) = answer_line(heap, &mut desk, line.as_slice())? {
+    for (number, line) in (1..u64::MAX).zip(input.split(heap, b'\n')) {
+        if let Some(reply) = answer_line(heap, &mut desk, line?.as_slice())? {
             println!(rt; "{number}: {reply}")?;
         }
     }
@@ -27,18 +22,14 @@ fn answer_all<I: BufRead + Drop>(rt: &HostRuntime, mut input: I) -> anyhow::Resu
 
 // The file's job, or a word on why it can't be read.
 fn answer_file(rt: &HostRuntime, path: &str) -> anyhow::Result<()> {
-    match File::open(rt, path) {
-        Ok(file) => answer_all(rt, BufReader::new(rt.alloc(), file)?),
-        Err(error) => Err(anyhow!(format!(in rt.alloc();
-            "the job '{path}' can't be read: {error}"
-        )?)),
-    }
+    let file = File::open(rt, path).map_err(|error| anyhow!(
+        "the job '{path}' can't be read: {error}"
+    ))?;
+    answer_all(rt, BufReader::new(rt.alloc(), file)?)
 }
 
 fn run(rt: &HostRuntime) -> anyhow::Result<()> {
-    let mut args = env::args(rt)?;
-    let _program = args.next();
-    match args.next() {
+    match env::args(rt)?.nth(1) {
         Some(path) => answer_file(rt, path.as_str()),
         None => answer_all(rt, BufReader::new(rt.alloc(), rt.stdin())?),
     }

@@ -1,13 +1,34 @@
 // A call, read from the words of a line.
 use crate::reply::Misread;
-use crate::words::{bytes_of, figures};
+use crate::words::{figures, words_of};
 use desk::call::{Call, Choice, Inquiry};
+use hex::FromHexError;
 use pegs::edit::Edit;
 use rules::point::Point;
 use rules::road::RoadFigures;
 use rules::table::Row;
 use std::alloc::{AllocError, Global};
 
+// Why no call is read: the line is none, or memory is wanting.
+#[derive(Clone, Copy)]
+pub enum Unread<'a> {
+    Misread(Misread<'a>),
+    Memory(AllocError),
+}
+
+impl<'a> From<Misread<'a>> for Unread<'a> {
+    fn from(misread: Misread<'a>) -> Unread<'a> {
+        Unread::Misread(misread)
+    }
+}
+
+impl<'a> From<AllocError> for Unread<'a> {
+    fn from(error: AllocError) -> Unread<'a> {
+        Unread::Memory(error)
+    }
+}
+
+// The codes that are named, in their order.
 fn read_choice<'a>(names: &[&'a str]) -> Result<Choice, Misread<'a>> {
     match names {
         ["irc"] => Ok(Choice::Irc),
@@ -26,6 +47,7 @@ fn point(station: u32, level: u32) -> Point {
     Point { station, level }
 }
 
+// An inquiry by its name and figures.
 fn read_inquiry<'a>(name: &'a str, rest: &[&'a str]) -> Result<Inquiry, Misread<'a>> {
     match name {
         "grade" => {
@@ -56,6 +78,7 @@ fn read_inquiry<'a>(name: &'a str, rest: &[&'a str]) -> Result<Inquiry, Misread<
     }
 }
 
+// An edit by its name and figures.
 fn read_edit<'a>(name: &'a str, rest: &[&'a str]) -> Result<Edit, Misread<'a>> {
     match name {
         "place" => {
@@ -99,29 +122,15 @@ fn read_size<'a>(rest: &[&'a str]) -> Result<u32, Misread<'a>> {
 }
 
 // A book to read, as one word of hexadecimal.
-fn read_bytes<'a>(heap: Global, rest: &[&'a str]) -> Result<Result<Call, Misread<'a>>, AllocError> {
+fn read_bytes<'a>(heap: Global, rest: &[&'a str]) -> Result<Vec<u8>, Unread<'a>> {
     let [word] = rest else {
-        return Ok(Err(Misread::Count {
-            wanted: 1,
-            given: rest.len(),
-        }));
+        let given = rest.len();
+        return Err(Unread::Misread(Misread::Count { wanted: 1, given }));
     };
-    match bytes_of(heap, word)? {
-        Some(bytes) => Ok(Ok(Call::Read(bytes))),
-        None => Ok(Err(Misread::NoBytes(word))),
-    }
-}
-
-// The call that a line makes; a book's bytes are set aside for it.
-pub fn call_of<'a>(
-    heap: Global,
-    name: &'a str,
-    rest: &[&'a str],
-) -> Result<Result<Call, Misread<'a>>, AllocError> {
-    match name {
-        "read" => read_bytes(heap, rest),
-        _ => Ok(read_call(name, rest)),
-    }
+    hex::decode(heap, *word).map_err(|error| match error {
+        FromHexError::OutOfMemory => Unread::Memory(AllocError),
+        _ => Unread::Misread(Misread::NoBytes(word)),
+    })
 }
 
 // The call that the words make: its name, then its figures.
@@ -154,11 +163,20 @@ fn read_call<'a>(name: &'a str, rest: &[&'a str]) -> Result<Call, Misread<'a>> {
             let [bound, clause] = figures::<2>(rest)?;
             Ok(Call::Table { bound, clause })
         }
-        "use" => Ok(Call::Use(read_choice(rest)?)),
-        "book" => Ok(Call::Book {
-            size: read_size(rest)?,
-        }),
-        "grade" | "curve" | "shortest" => Ok(Call::Ask(read_inquiry(name, rest)?)),
-        _ => Ok(Call::Edit(read_edit(name, rest)?)),
+        "use" => read_choice(rest).map(Call::Use),
+        "book" => read_size(rest).map(|size| Call::Book { size }),
+        "grade" | "curve" | "shortest" => read_inquiry(name, rest).map(Call::Ask),
+        _ => read_edit(name, rest).map(Call::Edit),
+    }
+}
+
+// The call that a line makes, or none where it has no words; a book's bytes are set aside for it.
+pub fn read_line<'a>(heap: Global, line: &'a [u8]) -> Result<Option<Call>, Unread<'a>> {
+    let text = std::str::from_utf8(line).map_err(|_| Misread::NotText)?;
+    let words = words_of(heap, text)?;
+    match words.as_slice() {
+        [] => Ok(None),
+        ["read", rest @ ..] => Ok(Some(Call::Read(read_bytes(heap, rest)?))),
+        [name, rest @ ..] => Ok(Some(read_call(name, rest)?)),
     }
 }

@@ -3,9 +3,8 @@ ghost use Rattle.std.specs.Result.{MatchResult};
 ghost use Rattle.desk.specs.Desk.{AsItWas};
 ghost use Rattle.job.specs.Runner.{Moved};
 
-use crate::reading::call_of;
-use crate::reply::{Misread, Reply};
-use crate::words::words_of;
+use crate::reading::{Unread, read_line};
+use crate::reply::Reply;
 use desk::desk::Desk;
 use std::alloc::{AllocError, Global};
 
@@ -17,15 +16,10 @@ pub fn answer_line<'a>(
 ) -> Result<Option<Reply<'a>>, AllocError>
     ensures { MatchResult result (λ reply. Moved desk.old desk.new reply) (λ _. AsItWas desk.old desk.new) }
 {
-    let Ok(text) = std::str::from_utf8(line) else {
-        return Ok(Some(Reply::Misread(Misread::NotText)));
-    };
-    let words = words_of(heap, text)?;
-    let [name, rest @ ..] = words.as_slice() else {
-        return Ok(None);
-    };
-    match call_of(heap, name, rest)? {
-        Ok(call) => Ok(Some(Reply::Answer(desk.make(heap, call)?))),
-        Err(misread) => Ok(Some(Reply::Misread(misread))),
+    match read_line(heap, line) {
+        Ok(None) => Ok(None),
+        Ok(Some(call)) => Ok(Some(Reply(Ok(desk.make(heap, call)?)))),
+        Err(Unread::Misread(misread)) => Ok(Some(Reply(Err(misread)))),
+        Err(Unread::Memory(error)) => Err(error),
     }
 }
