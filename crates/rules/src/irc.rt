@@ -148,6 +148,7 @@ fn rule_for(road: Road, kind: Kind) -> SightRule
                 q: 9600,
                 clause: Clause::IntermediateSight,
             },
+            // a road whose speed gives no distance has no overtaking sight in an Irc
             Sight::Overtaking => SightRule {
                 distance: asked.overtaking.unwrap_or(0),
                 q: 9600,
@@ -192,10 +193,8 @@ impl Irc {
         ensures { MatchResult result (λ code. Named figures code.road) (λ e. IrcRefused figures e) }
     {
         let road = Road::try_from(figures)?;
-        if let Sight::Overtaking = road.sight {
-            if asked_of(road).kmh < 40 {
-                return Err(Refusal::OvertakingTooSlow);
-            }
+        if matches!(road.sight, Sight::Overtaking) && asked_of(road).kmh < 40 {
+            return Err(Refusal::OvertakingTooSlow);
         }
         Ok(Irc { road })
     }

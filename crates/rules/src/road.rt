@@ -46,6 +46,7 @@ pub enum Sight {
 }
 
 // The five figures as they came in.
+// stays: figures and no enums, since an unknown one is refused by the refusal's number, like every figure from outside.
 #[derive(Clone, Copy)]
 pub struct RoadFigures {
     pub class: u32,

@@ -11,6 +11,7 @@ use crate::refusal::{Refusal, TableFault};
 use crate::turn::Turn;
 
 // A row as it came in: of kind 0 (summit) or 1 (valley), up to `change` thousandths, at least `least` metres, else the clause.
+// stays: the kind is a figure and no Kind, since rows stand as they came in, and a wrong figure is refused by its row's place.
 #[derive(Clone, Copy)]
 pub struct Row {
     pub kind: u32,
@@ -20,6 +21,7 @@ pub struct Row {
 }
 
 // The rows, and the steepest grade in thousandths with its clause.
+// stays: the clause is a plain number, since a table has no invariant and its verdicts are total over any figures; 0 passes.
 #[derive(Clone, Copy)]
 pub struct LengthTable<'a> {
     pub rows: &'a [Row],
@@ -37,8 +39,7 @@ impl Row {
         self.kind <= 1
             && self.change <= 2000
             && self.least <= 2000
-            && self.clause >= 1
-            && self.clause <= 254
+            && (1..=254).contains(&self.clause)
     }
 
     // Whether the row is of the turn's kind and reaches its change of grade.
@@ -89,13 +90,13 @@ impl<'a> LengthTable<'a> {
     pub fn new(rows: &'a [Row], bound: u32, clause: u32) -> Result<LengthTable<'a>, Refusal>
         ensures { MatchResult result (λ t. Lawful rows.now bound clause × (t.rows.now ≡ rows.now) × (t.bound ≡ bound) × (t.clause ≡ clause)) (λ e. TableRefused rows.now bound clause e) }
     {
-        if rows.len() < 1 || rows.len() > 64 {
+        if !(1..=64).contains(&rows.len()) {
             return Err(Refusal::UnlawfulTable(TableFault::RowCount));
         }
         if let Some(i) = first_unlawful(rows) {
             return Err(Refusal::UnlawfulTable(TableFault::Row(i)));
         }
-        if bound > 2000 || clause < 1 || clause > 254 {
+        if bound > 2000 || !(1..=254).contains(&clause) {
             return Err(Refusal::UnlawfulTable(TableFault::Gradient));
         }
         Ok(LengthTable {

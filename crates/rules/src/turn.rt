@@ -71,7 +71,6 @@ impl Turn {
     }
 
     // How the outgoing grade differs from the incoming one, over both runs: below zero at a summit.
-    #[tactic(auto, unfolding(crate::specs::Turns::twist))]
     fn twist(&self) -> i64
         ensures value { result ≡ twist_of self.now.bend }
         ensures small { unsigned_abs result ≤ 180000000000 }

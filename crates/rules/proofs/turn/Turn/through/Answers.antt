@@ -13,3 +13,10 @@ invariant_of-result-clause-rise_in_within c =
     let first : c.args.before.level ≤ 9000000 = low 0 c.args.at (omega arith) in
     let second : c.args.at.level ≤ 9000000 = low 1 c.args.at (omega arith) in
     search rules
+
+pub invariant_of-result-clause-rise_out_within : goal.invariant_of-result-clause-rise_out_within
+invariant_of-result-clause-rise_out_within c =
+    let low = c.in_ok-sound.ensures.1 in
+    let second : c.args.at.level ≤ 9000000 = low 1 c.args.at (omega arith) in
+    let third : c.args.after.level ≤ 9000000 = low 2 c.args.at (omega arith) in
+    search rules
