@@ -8,6 +8,7 @@ use crate::alignment::Alignment;
 use crate::examine::Broken;
 use crate::fitted::Fitted;
 use crate::judge::Judge;
+use crate::passed::PassedLine;
 use rules::code::RoadCode;
 use rules::shortest::shortest;
 use std::fmt;
@@ -97,11 +98,15 @@ impl<C: RoadCode> Judge<'_, C> {
     {
         self.check_grades()?;
         self.check_turns()?;
-        if let Some(t) = self.fill_rows(store) {
+        let passed = PassedLine {
+            code: self.code,
+            line: self.line,
+        };
+        if let Some(t) = passed.fill_rows(store) {
             let peg = self.line.pegs[t].number;
             return Err(NoFit::Closed { peg });
         }
-        self.walk(store, lengths);
+        passed.walk(store, lengths);
         Ok(store[0])
     }
 }
@@ -113,9 +118,11 @@ fn lay<C: RoadCode>(
     store: &mut [u32],
     lengths: &mut [u32],
 ) -> Result<u32, NoFit>
-    requires { (401 * length (take alignment.now.count alignment.now.pegs) ≤ length store.old) × (length lengths.old ≡ 40) }
+    requires room { 401 * length (take alignment.now.count alignment.now.pegs) ≤ length store.old }
+    requires count { length lengths.old ≡ 40 }
     ensures found { MatchResult result (λ total. Best (verdicts C.RoadCode code.now) (take alignment.now.count alignment.now.pegs) alignment.now.fixed (take alignment.now.count lengths.new) × (total ≡ sum (take alignment.now.count lengths.new))) (λ e. IsNoFit (verdicts C.RoadCode code.now) (take alignment.now.count alignment.now.pegs) alignment.now.fixed (length store.old) e) }
-    ensures room { (length store.new ≡ length store.old) × (length lengths.new ≡ 40) }
+    ensures room { length store.new ≡ length store.old }
+    ensures count { length lengths.new ≡ 40 }
 {
     let line = alignment.grade_line();
     Judge { code, line }.find(store, &mut lengths[..alignment.count])

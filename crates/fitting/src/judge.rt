@@ -8,7 +8,8 @@ use rules::clause::ClauseNumber;
 use rules::code::RoadCode;
 use rules::length::Length;
 
-#[derive_where(Clone, Copy)]
+// Both are lent.
+#[derive(Drop)]
 pub(crate) struct Judge<'a, C> {
     pub code: &'a C,
     pub line: GradeLine<'a>,

@@ -8,6 +8,7 @@ pub mod fitted;
 mod grade_line;
 mod judge;
 mod level;
+mod passed;
 pub mod ready;
 mod rows;
 mod rules_met;

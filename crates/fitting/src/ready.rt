@@ -1,5 +1,5 @@
 // The alignment of a profile: its pegs in force, or why it is not ready.
-ghost use Rattle.std.specs.Prelude.{◌≡◌, ◌+◌, ◌<◌, ◌≤◌, [], ◌++◌, length, take, Some, Decides, MatchOption, MatchResult};
+ghost use Rattle.std.specs.Prelude.{◌≡◌, ◌+◌, ◌-◌, ◌<◌, ◌≤◌, [], ◌++◌, length, take, Some, Decides, MatchOption, MatchResult};
 ghost use Rattle.pegs.specs.declared.peg.FixedLevel.{FixedLevel};
 ghost use Rattle.fitting.specs.Line.{OnRoad, Rising};
 ghost use Rattle.fitting.specs.Ready.{FixedOn, IsNotReady, NotRisingAt, OffRoadAt, Ready, SoundAlignment, in_force, not_ready_number, then_standing};
@@ -84,16 +84,21 @@ fn collect(slots: &[Slot<Peg>], pegs: &mut [Standing]) -> usize
     count
 }
 
+// Metres from one peg to another, and 0 where that one stands no further on.
+fn metres_on(from: &Standing, to: &Standing) -> u32
+    ensures { result ≡ to.now.point.station - from.now.point.station }
+{
+    to.point.station.saturating_sub(from.point.station)
+}
+
 // The first peg from which the station doesn't rise by 10 m.
 fn first_not_rising(pegs: &[Standing]) -> Option<usize>
     requires { 2 ≤ length pegs.now }
     ensures { MatchOption result (Rising pegs.now) (λ i. NotRisingAt pegs.now i) }
 {
-    pegs.iter().zip(&pegs[1..]).position(|(from, to)| to
-        .point
-        .station
-        .saturating_sub(from.point.station)
-        < 10)
+    pegs.iter()
+        .zip(&pegs[1..])
+        .position(|(from, to)| metres_on(from, to) < 10)
 }
 
 // Whether a fixed level, if there is one, lies between two stations.
@@ -162,6 +167,7 @@ impl Alignment {
     {
         &self.pegs[..self.count]
     }
+
     // The same, with the fixed levels on it.
     pub(crate) fn grade_line(&self) -> GradeLine<'_>
         ensures { (result.pegs.now ≡ take self.now.count self.now.pegs) × (result.fixed.now ≡ self.now.fixed) }

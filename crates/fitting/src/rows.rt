@@ -1,11 +1,12 @@
 // The rows of least totals, filled from the last peg back.
 ghost use Rattle.std.specs.Prelude.{◌≡◌, ℕ, ◌+◌, ◌*◌, ◌<◌, ◌≤◌, length, MatchBool, MatchOption, slice_index};
 ghost use Rattle.fitting.specs.Rows.{LeastFrom, RowMeans, RowsFrom, entry, none};
-ghost use Rattle.fitting.specs.Rules.{GradesPass, LastClosed, verdicts};
+ghost use Rattle.fitting.specs.Rules.{LastClosed, verdicts};
 ghost use Rattle.fitting.specs.Walked.{EndsFlat, LeastJoined, RowOpen};
 
 use crate::grade_line::GradeLine;
 use crate::judge::Judge;
+use crate::passed::PassedLine;
 use rules::code::RoadCode;
 use rules::length::Length;
 
@@ -41,18 +42,21 @@ impl GradeLine<'_> {
     }
 }
 
-impl<C: RoadCode> Judge<'_, C> {
+impl<C: RoadCode> PassedLine<'_, C> {
     // The least total from peg t on where t has the length 5 k; `after` begins with the row after, where there is one.
     // stays: it is a word of the lent store, where u32::MAX stands for no total
     fn entry_of(&self, after: &[u32], t: usize, k: u32) -> u32
         requires there { t < length self.now.line.pegs.now }
         requires step { k < 401 }
-        requires grades { GradesPass (verdicts C.RoadCode self.now.code.now) self.now.line.pegs.now }
         requires after { t + 1 < length self.now.line.pegs.now → (401 ≤ length after.now) × RowMeans (verdicts C.RoadCode self.now.code.now) self.now.line.pegs.now self.now.line.fixed.now (slice_index after.now) (t + 1) }
         ensures { LeastFrom (verdicts C.RoadCode self.now.code.now) self.now.line.pegs.now self.now.line.fixed.now t k result }
     {
         let own = Length { metres: 5 * k };
-        if !self.peg_keeps(t, own) {
+        let judge = Judge {
+            code: self.code,
+            line: self.line,
+        };
+        if !judge.peg_keeps(t, own) {
             return u32::MAX;
         }
         if t + 1 == self.line.pegs.len() {
@@ -67,7 +71,6 @@ impl<C: RoadCode> Judge<'_, C> {
     fn write_row(&self, row: &mut [u32], after: &[u32], t: usize)
         requires there { t < length self.now.line.pegs.now }
         requires count { length row.old ≡ 401 }
-        requires grades { GradesPass (verdicts C.RoadCode self.now.code.now) self.now.line.pegs.now }
         requires after { t + 1 < length self.now.line.pegs.now → (401 ≤ length after.now) × RowMeans (verdicts C.RoadCode self.now.code.now) self.now.line.pegs.now self.now.line.fixed.now (slice_index after.now) (t + 1) }
         ensures written { RowMeans (verdicts C.RoadCode self.now.code.now) self.now.line.pegs.now self.now.line.fixed.now (slice_index row.new) t }
         ensures count { length row.new ≡ 401 }
@@ -81,7 +84,6 @@ impl<C: RoadCode> Judge<'_, C> {
     fn fill_row(&self, store: &mut [u32], t: usize)
         requires there { t < length self.now.line.pegs.now }
         requires room { length self.now.line.pegs.now * 401 ≤ length store.old }
-        requires grades { GradesPass (verdicts C.RoadCode self.now.code.now) self.now.line.pegs.now }
         requires after { RowsFrom (verdicts C.RoadCode self.now.code.now) self.now.line.pegs.now self.now.line.fixed.now store.old (t + 1) }
         ensures filled { RowsFrom (verdicts C.RoadCode self.now.code.now) self.now.line.pegs.now self.now.line.fixed.now store.new t }
         ensures room { length store.new ≡ length store.old }
@@ -93,7 +95,6 @@ impl<C: RoadCode> Judge<'_, C> {
     // Fills the rows from the last peg back, up to the first of them that is closed.
     pub(crate) fn fill_rows(&self, store: &mut [u32]) -> Option<usize>
         requires room { length self.now.line.pegs.now * 401 ≤ length store.old }
-        requires grades { GradesPass (verdicts C.RoadCode self.now.code.now) self.now.line.pegs.now }
         ensures filled { MatchOption result (RowsFrom (verdicts C.RoadCode self.now.code.now) self.now.line.pegs.now self.now.line.fixed.now store.new 0 × (entry store.new 0 0 < none)) (λ t. LastClosed (verdicts C.RoadCode self.now.code.now) self.now.line.pegs.now self.now.line.fixed.now t) }
         ensures room { length store.new ≡ length store.old }
     {

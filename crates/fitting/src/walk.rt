@@ -2,11 +2,11 @@
 ghost use Rattle.std.specs.Prelude.{◌≡◌, ℕ, ◌+◌, ◌*◌, ◌<◌, ◌≤◌, length, sum};
 ghost use Rattle.fitting.specs.Best.{Best};
 ghost use Rattle.fitting.specs.Rows.{RowsFrom, entry, none};
-ghost use Rattle.fitting.specs.Rules.{GradesPass, verdicts};
+ghost use Rattle.fitting.specs.Rules.{verdicts};
 ghost use Rattle.fitting.specs.Walked.{EndsFlat, Leads, Picked};
 
 use crate::grade_line::GradeLine;
-use crate::judge::Judge;
+use crate::passed::PassedLine;
 use crate::rows::row;
 use rules::code::RoadCode;
 use rules::length::Length;
@@ -34,12 +34,11 @@ impl GradeLine<'_> {
     }
 }
 
-impl<C: RoadCode> Judge<'_, C> {
+impl<C: RoadCode> PassedLine<'_, C> {
     // Writes the best lengths, which the rows lead to.
     pub(crate) fn walk(&self, store: &[u32], lengths: &mut [u32])
         requires room { length self.now.line.pegs.now * 401 ≤ length store.now }
         requires count { length lengths.old ≡ length self.now.line.pegs.now }
-        requires grades { GradesPass (verdicts C.RoadCode self.now.code.now) self.now.line.pegs.now }
         requires rows { RowsFrom (verdicts C.RoadCode self.now.code.now) self.now.line.pegs.now self.now.line.fixed.now store.now 0 }
         requires reached { entry store.now 0 0 < none }
         ensures best { Best (verdicts C.RoadCode self.now.code.now) self.now.line.pegs.now self.now.line.fixed.now lengths.new }

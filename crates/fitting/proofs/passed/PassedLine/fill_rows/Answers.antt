@@ -4,7 +4,7 @@ use Rattle.fitting.specs.Rules.{verdicts}
 use Rattle.fitting.specs.Rows.{entry}
 use Rattle.fitting.specs.Walked.{RowOpen}
 use Rattle.fitting.proofs.Entries.{first_open, row_closed, row_open}
-use Rattle.fitting.proofs.judge.Judge.fill_rows.Goals as goal
+use Rattle.fitting.proofs.passed.PassedLine.fill_rows.Goals as goal
 
 pub returns-then-is_closed-clause-filled : goal.returns-then-is_closed-clause-filled
 returns-then-is_closed-clause-filled g c = record {

@@ -3,7 +3,7 @@ use Rattle.std.proofs.lemmas.Bool.{cases_eq}
 use Rattle.std.proofs.lemmas.List.{get_or-append_right, get_or-drop, get_or_append_left, length-append, length-drop, length-take-le}
 use Rattle.fitting.specs.Rows.{LeastFrom, entry}
 use Rattle.fitting.specs.Rules.{verdicts}
-use Rattle.fitting.proofs.judge.Judge.fill_row.Goals as goal
+use Rattle.fitting.proofs.passed.PassedLine.fill_row.Goals as goal
 
 -- the words up to a row's end with the row written anew, and the words after it
 module _ (front row store : List ℕ) (t : ℕ) (e : length front ≡ (t + 1) * 401) (r : length row ≡ 401) where

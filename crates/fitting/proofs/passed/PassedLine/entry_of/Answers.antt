@@ -6,7 +6,7 @@ use Rattle.fitting.specs.declared.alignment.Standing.{Standing}
 use Rattle.fitting.specs.Rows.{LeastFrom, RowMeans}
 use Rattle.fitting.specs.Rules.{Verdicts}
 use Rattle.fitting.proofs.Entries.{ends_flat, least_last, least_more}
-use Rattle.fitting.proofs.judge.Judge.entry_of.Goals as goal
+use Rattle.fitting.proofs.passed.PassedLine.entry_of.Goals as goal
 
 -- the first 401 of the words after a row mean what those words do
 next_means : (c : Verdicts) (ps : List Standing) (fixed : List (Slot FixedLevel)) (after : List ℕ) (u : ℕ) → RowMeans c ps fixed (slice_index after) u → RowMeans c ps fixed (slice_index (take 401 after)) u
@@ -26,4 +26,4 @@ returns-then-t-self g c = least_last _ _ _ _ _ c.if-t-self.true (c.if-not-peg_ke
 
 pub returns : goal.returns
 returns g c =
-    least_more _ _ _ (slice_index (take 401 c.args.after.now)) _ _ _ _ (omega arith) (c.requires.grades _ (omega arith)) (c.if-not-peg_keeps.ensures.0 refl) (next_means _ _ _ _ _ (c.requires.after (omega arith)).1) c.least_after.ensures c.saturating_add.ensures
+    least_more _ _ _ (slice_index (take 401 c.args.after.now)) _ _ _ _ (omega arith) (c.args.self.now.grades _ (omega arith)) (c.if-not-peg_keeps.ensures.0 refl) (next_means _ _ _ _ _ (c.requires.after (omega arith)).1) c.least_after.ensures c.saturating_add.ensures

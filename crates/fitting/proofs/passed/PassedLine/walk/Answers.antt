@@ -3,7 +3,7 @@ use Rattle.fitting.specs.Rules.{len}
 use Rattle.fitting.specs.Walked.{Leads, Picked}
 use Rattle.fitting.specs.Rows.{entry}
 use Rattle.fitting.proofs.Walks.{here_leads, walked_best, walked_more, walked_total}
-use Rattle.fitting.proofs.judge.Judge.walk.Goals as goal
+use Rattle.fitting.proofs.passed.PassedLine.walk.Goals as goal
 
 -- a length's place in its row
 step_in : (l : ℕ) → l ≤ 2000 → l / 5 < 401
@@ -32,7 +32,7 @@ loop-t-preserved g c =
     let t = c.loop-t.t in
     let l = len c.loop-t.lengths t in
     let here : slice_index c.row.result.now (l / 5) ≡ entry store t (l / 5) = c.row.ensures.entries (l / 5) (step_in l (c.loop-t.invariant.pegs t (omega arith)).most) in
-    walked_more _ _ _ _ c.requires.rows c.requires.reached _ _ (omega arith) c.loop-t.invariant c.requires.grades _
+    walked_more _ _ _ _ c.requires.rows c.requires.reached _ _ (omega arith) c.loop-t.invariant c.args.self.now.grades _
     (subst (λ z. Picked line.pegs.now line.fixed.now (entry store (t + 1)) t l (z - l) c.pick.result) here c.pick.ensures)
 
 pub returns : goal.returns

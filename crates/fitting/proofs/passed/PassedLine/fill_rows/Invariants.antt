@@ -1,7 +1,7 @@
 use Rattle.std.proofs.Common.{ℕ, ◌<◌, ◌≤◌, length}
 use Rattle.fitting.specs.Rows.{RowsFrom}
 use Rattle.fitting.specs.Rules.{Closed, verdicts}
-use Rattle.fitting.proofs.judge.Judge.fill_rows.Given as goal
+use Rattle.fitting.proofs.passed.PassedLine.fill_rows.Given as goal
 
 abbrev pub invariant-loop-t : goal.invariant-loop-t
 invariant-loop-t g l =

@@ -1,5 +1,5 @@
 use Rattle.std.proofs.Common.{◌<◌, ◌≢◌, length, arith, below_more, get_or-set_other, get_or-set_same}
-use Rattle.fitting.proofs.judge.Judge.write_row.Goals as goal
+use Rattle.fitting.proofs.passed.PassedLine.write_row.Goals as goal
 
 pub loop-k-preserved : goal.loop-k-preserved
 loop-k-preserved g c =

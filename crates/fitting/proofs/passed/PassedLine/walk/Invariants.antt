@@ -1,6 +1,6 @@
 use Rattle.fitting.specs.Rules.{verdicts}
 use Rattle.fitting.specs.Walked.{Walked}
-use Rattle.fitting.proofs.judge.Judge.walk.Given as goal
+use Rattle.fitting.proofs.passed.PassedLine.walk.Given as goal
 
 abbrev pub invariant-loop-t : goal.invariant-loop-t
 invariant-loop-t g l =
