@@ -106,10 +106,10 @@ impl<C: RoadCode> Judge<'_, C> {
         if !span.is_apart() {
             return Err(Broken::Overlap { peg });
         }
-        match span.first_not_kept() {
-            Some(n) => Err(Broken::FixedLevelLost { number: n as u32 }),
-            None => Ok(()),
+        if let Some(n) = span.first_not_kept() {
+            return Err(Broken::FixedLevelLost { number: n as u32 });
         }
+        Ok(())
     }
 
     // Whether the lengths meet every rule, or the first that they break, walking from the first peg.

@@ -136,6 +136,7 @@ pub fn fit<C: RoadCode>(alignment: &Alignment, code: &C, store: &mut [u32]) -> R
     if store.len() < 401 * alignment.count {
         return Err(NoFit::StoreTooSmall);
     }
+    // stays: room for the lengths of forty pegs, since there is no heap
     let mut lengths = [0u32; 40];
     let found = lay(alignment, code, store, &mut lengths);
     store.fill(0);

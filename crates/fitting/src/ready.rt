@@ -73,7 +73,8 @@ fn add(number: u32, held: Option<Peg>, pegs: &mut [Standing], at: usize) -> usiz
 // Writes the pegs that slots hold at the front of `pegs`, in the order of their numbers, and tells how many.
 // stays: they are gathered in the room of an alignment, since there is no heap
 fn collect(slots: &[Slot<Peg>], pegs: &mut [Standing]) -> usize
-    requires { (length slots.now ≡ 40) × (length pegs.old ≡ 40) }
+    requires slots { length slots.now ≡ 40 }
+    requires room { length pegs.old ≡ 40 }
     ensures line { take result pegs.new ≡ in_force slots.now }
     ensures most { (result ≤ 40) × (length pegs.new ≡ 40) }
 {
@@ -105,15 +106,13 @@ fn first_not_rising(pegs: &[Standing]) -> Option<usize>
 fn lies_between(held: Option<FixedLevel>, first: u32, last: u32) -> bool
     ensures { Decides result ((f : FixedLevel) → held ≡ Some f → (first ≤ f.station) × (f.station ≤ last)) }
 {
-    match held {
-        Some(level) => first <= level.station && level.station <= last,
-        None => true,
-    }
+    held.is_none_or(|level| first <= level.station && level.station <= last)
 }
 
 // The first fixed level that lies off the road.
 fn first_off(pegs: &[Standing], fixed: &[Slot<FixedLevel>]) -> Option<usize>
-    requires { (2 ≤ length pegs.now) × (length fixed.now ≡ 16) }
+    requires many { 2 ≤ length pegs.now }
+    requires sixteen { length fixed.now ≡ 16 }
     ensures { MatchOption result (FixedOn pegs.now fixed.now) (λ n. (n ≤ 15) × OffRoadAt pegs.now fixed.now n) }
 {
     let first = pegs[0].point.station;

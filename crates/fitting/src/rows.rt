@@ -110,6 +110,7 @@ impl<C: RoadCode> PassedLine<'_, C> {
 }
 
 // Whether no length of peg t has a total.
+// stays: in the words of the lent store u32::MAX stands for no total
 fn is_closed(store: &[u32], t: usize) -> bool
     requires { (t + 1) * 401 ≤ length store.now }
     ensures { MatchBool result ((k : ℕ) → k < 401 → entry store.now t k ≡ none) (RowOpen (entry store.now t)) }

@@ -24,5 +24,5 @@ off_road ps fixed (Some n) e found = (omega arith, record { off = found.1 untouc
 pub returns : goal.returns
 returns c =
     let ps = c.args.pegs.now in
-    off_road ps c.args.fixed.now c.position.result c.requires.1
+    off_road ps c.args.fixed.now c.position.result c.requires.sixteen
     (IsFirst-from_position _ _ c.position.result (λ s. On ps s → ⊥) (On ps) c.position.ensures.ran (YieldsList-from_slice c.args.fixed.now (cc)) (λ x q k. search (rules, tests)) (λ x q k. search (rules, tests)))
