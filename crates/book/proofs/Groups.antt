@@ -17,7 +17,7 @@ unfolding groups
 more f n h = rw (le-ltb n 128 h) refl
 
 -- numbers take five bytes each at most
-groups_most : (f n : ℕ) → length (groups f n) ≤ f
+pub groups_most : (f n : ℕ) → length (groups f n) ≤ f
 unfolding groups
 groups_most zero n = omega arith
 groups_most (suc f) n = ⊎_elim (λ h. rw (one f n h) (omega arith)) (λ h. rw (more f n h) (omega (arith, groups_most f (n / 128)))) (cases_lt n 128)

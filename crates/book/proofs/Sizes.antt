@@ -9,7 +9,7 @@ use Rattle.book.specs.Book.{edited, encode, entries, entry_numbers, fixed_figure
 use Rattle.book.specs.Numbers.{groups, number}
 use Rattle.book.specs.Sound.{GoodFixed, GoodPeg, Sound, SoundSlots}
 use Rattle.book.proofs.Apart.{halved}
-use Rattle.book.proofs.Groups.{more, one}
+use Rattle.book.proofs.Groups.{groups_most, more, one}
 use Rattle.book.proofs.Laws.{edited_most, fixed_sound, pegs_sound, sound_rest}
 use Rattle.book.proofs.Tables.{book_length}
 use Rattle.book.proofs.Writes.{length_both, length_none, length-written}
@@ -32,9 +32,6 @@ two_bytes n h = groups_few 4 1 n (omega arith) h
 four_bytes : (n : ℕ) → n < 268435456 → length (number n) ≤ 4
 four_bytes n h = groups_few 4 3 n (omega arith) h
 
-five_bytes : (n : ℕ) → n < 2 ^ 32 → length (number n) ≤ 5
-five_bytes n h = groups_few 4 4 n (omega arith) (omega arith)
-
 peg_bytes : (p : Peg) → GoodPeg p → length (written (peg_figures p)) ≤ 6
 peg_bytes p g =
     omega (arith, length-written p.station (p.level ∷ []), length-written p.level [], length_none, two_bytes p.station (omega arith), four_bytes p.level (omega arith))
@@ -44,14 +41,14 @@ fixed_bytes x g =
     omega (arith, length-written x.station (x.low ∷ x.high ∷ []), length-written x.low (x.high ∷ []), length-written x.high [], length_none, two_bytes x.station (omega arith), four_bytes x.low (omega arith), four_bytes x.high (omega arith))
 
 module _ {T : Type 0} (figures : T → List ℕ) (Good : T → Type 0) (each : ℕ) (bytes : (x : T) → Good x → length (written (figures x)) + 7 ≤ each) (seven : 7 ≤ each) where
-  entry_bytes : (k : ℕ) (s : Slot T) → k < 128 → s.last < 2 ^ 32 → ((x : T) → s.held ≡ Some x → Good x) → length (written (entry_numbers figures k s)) ≤ each
-  entry_bytes k s h l g = held_bytes s.held g
+  entry_bytes : (k : ℕ) (s : Slot T) → k < 128 → ((x : T) → s.held ≡ Some x → Good x) → length (written (entry_numbers figures k s)) ≤ each
+  entry_bytes k s h g = held_bytes s.held g
     where
       held_bytes : (o : Option T) → ((x : T) → o ≡ Some x → Good x) → length (written (k ∷ s.last ∷ marked_figures figures o)) ≤ each
       held_bytes None _ =
-          omega (arith, length-written k (s.last ∷ 0 ∷ []), length-written s.last (0 ∷ []), length-written 0 [], length_none, one_byte k h, five_bytes s.last l, one_byte 0 (lit< tt))
+          omega (arith, length-written k (s.last ∷ 0 ∷ []), length-written s.last (0 ∷ []), length-written 0 [], length_none, one_byte k h, groups_most 5 s.last, one_byte 0 (lit< tt))
       held_bytes (Some x) g =
-          omega (arith, length-written k (s.last ∷ 1 ∷ figures x), length-written s.last (1 ∷ figures x), length-written 1 (figures x), bytes x (g x refl), one_byte k h, five_bytes s.last l, one_byte 1 (lit< tt))
+          omega (arith, length-written k (s.last ∷ 1 ∷ figures x), length-written s.last (1 ∷ figures x), length-written 1 (figures x), bytes x (g x refl), one_byte k h, groups_most 5 s.last, one_byte 1 (lit< tt))
 
   entries_bytes : (k : ℕ) (ss : List (Slot T)) → k + length ss ≤ 40 → SoundSlots Good ss → length (written (entries figures k ss)) ≤ each * length ss
   unfolding entries
@@ -60,7 +57,7 @@ module _ {T : Type 0} (figures : T → List ℕ) (Good : T → Type 0) (each : �
       ⊎_elim (λ (q : s.last ≡ 0). rw (eq-eqb s.last 0 q) (omega (arith, entries_bytes (suc k) ss (omega arith) (sound_rest Good s ss o))))
       (λ (q : s.last ≡ 0 → ⊥).
       rw (ne_eqb s.last 0 q)
-      (omega (arith, length_both (entry_numbers figures k s) (entries figures (suc k) ss), entry_bytes k s (omega arith) (o.fits 0) (o.good 0), entries_bytes (suc k) ss (omega arith) (sound_rest Good s ss o))))
+      (omega (arith, length_both (entry_numbers figures k s) (entries figures (suc k) ss), entry_bytes k s (omega arith) (o.good 0), entries_bytes (suc k) ss (omega arith) (sound_rest Good s ss o))))
       (cases_eq s.last 0)
 
   table_bytes : (ss : List (Slot T)) → length ss ≤ 40 → SoundSlots Good ss → length (written (table_numbers figures ss)) ≤ 1 + each * length ss
