@@ -45,7 +45,7 @@ CurveRefused ps l e = PointsRefused ps e ⊎ (PointsSound ps × (e ≡ LengthOut
 
 -- a verdict, and the code that it is by
 abbrev pub VerdictTold : ℕ → Choice → Answer → Type 0
-VerdictTold verdict by (answer.Verdict v c) = Told verdict v × (c ≡ by)
+VerdictTold verdict by (answer.Verdict v) = Told verdict v.told × (v.by ≡ by)
 VerdictTold verdict by _ = ⊥
 
 -- the shortest length that passes, or that none does
@@ -165,7 +165,7 @@ stands_of (edit.Clear n s) t = stands.Fixed n (fixed_slot t n).held
 pub record EditMade (d : Desk) (e : Edit) (d' : Desk) (a : Answer) : Type 0 where
   pub reply : Result (Unit {0}) EditRefusal
   pub profile : Applied e d.profile d'.profile reply
-  pub told : a ≡ answer.Edited reply (stands_of e d'.profile.tables)
+  pub told : a ≡ answer.Edited (record { outcome = reply; stands = stands_of e d'.profile.tables })
   pub rest : d' ≡ record d { profile = d'.profile }
 
 -- the bytes of the book, where the buffer is long enough for them

@@ -76,6 +76,86 @@ impl fmt::Display for Stands {
     }
 }
 
+// What a code says of a grade or a curve, and which code that is.
+#[derive(Clone, Copy)]
+pub struct Verdict {
+    pub told: Result<(), ClauseNumber>,
+    pub by: Choice,
+}
+
+// The standard's clauses are told in words; an office knows its own.
+impl fmt::Display for Verdict {
+    fn fmt<W: fmt::Write>(&self, f: &mut fmt::Formatter<W>) -> fmt::Result {
+        let Err(ClauseNumber { number }) = self.told else {
+            return f.write_str("ok clause 0: passed");
+        };
+        match (self.by, Clause::try_from(number)) {
+            (Choice::Irc, Ok(clause)) => write!(f, "ok clause {number}: {clause}"),
+            _ => write!(f, "ok clause {number}: not passed"),
+        }
+    }
+}
+
+// What became of an edit, and what stands now under its number.
+#[derive(Clone, Copy)]
+pub struct Edited {
+    pub outcome: Result<(), EditRefusal>,
+    pub stands: Stands,
+}
+
+// A late edit is told with what stands instead.
+impl fmt::Display for Edited {
+    fn fmt<W: fmt::Write>(&self, f: &mut fmt::Formatter<W>) -> fmt::Result {
+        let stands = self.stands;
+        let Err(refusal) = self.outcome else {
+            return write!(f, "ok: {stands}");
+        };
+        write!(f, "refused {}: {refusal}", refusal.number())?;
+        match refusal {
+            EditRefusal::SequenceLower | EditRefusal::SequenceEqual => write!(f, "; {stands}"),
+            _ => Ok(()),
+        }
+    }
+}
+
+// Bytes in hexadecimal.
+#[derive(Clone, Copy)]
+struct Hex<'a>(&'a [u8]);
+
+impl<'a> fmt::Display for Hex<'a> {
+    fn fmt<W: fmt::Write>(&self, f: &mut fmt::Formatter<W>) -> fmt::Result {
+        for byte in self.0 {
+            write!(f, "{byte:02x}")?;
+        }
+        Ok(())
+    }
+}
+
+// What a road's design speed asks, in one line.
+#[derive(Clone, Copy)]
+struct Line(Asked);
+
+impl fmt::Display for Line {
+    fn fmt<W: fmt::Write>(&self, f: &mut fmt::Formatter<W>) -> fmt::Result {
+        let Asked {
+            kmh,
+            stopping,
+            overtaking,
+            free_change,
+            least_length,
+        } = self.0;
+        write!(f, "{kmh} km/h, stopping sight {stopping} m, ")?;
+        match overtaking {
+            Some(distance) => write!(f, "overtaking sight {distance} m, ")?,
+            None => f.write_str("no overtaking sight, ")?,
+        }
+        write!(
+            f,
+            "free change {free_change} per 1000, least length {least_length} m"
+        )
+    }
+}
+
 // The answer to a call: what it did or found, what the layers below made of it, or what stands against it.
 #[derive(Drop)]
 pub enum Answer {
@@ -84,123 +164,51 @@ pub enum Answer {
     Rows(usize),
     Table(usize),
     InUse(Choice),
-    Verdict {
-        verdict: Result<(), ClauseNumber>,
-        by: Choice,
-    },
+    Verdict(Verdict),
     Shortest(Result<Length, NoLength>),
-    Edited {
-        outcome: Result<(), EditRefusal>,
-        stands: Stands,
-    },
+    Edited(Edited),
     Book(Result<Vec<u8>, TooShort>),
     BookRead(Result<(), BookFault>),
     Refused(Refusal),
     Missing(Missing),
 }
 
-// What a road's design speed asks.
-fn tell_road<W: fmt::Write>(asked: Asked, f: &mut fmt::Formatter<W>) -> fmt::Result {
-    let Asked {
-        kmh,
-        stopping,
-        overtaking,
-        free_change,
-        least_length,
-    } = asked;
-    write!(f, "ok: {kmh} km/h, stopping sight {stopping} m, ")?;
-    match overtaking {
-        Some(distance) => write!(f, "overtaking sight {distance} m, ")?,
-        None => f.write_str("no overtaking sight, ")?,
-    }
-    write!(
-        f,
-        "free change {free_change} per 1000, least length {least_length} m"
-    )
-}
-
-// The standard's clauses are told in words; an office knows its own.
-fn tell_verdict<W: fmt::Write>(
-    verdict: Result<(), ClauseNumber>,
-    by: Choice,
-    f: &mut fmt::Formatter<W>,
-) -> fmt::Result {
-    let Err(ClauseNumber { number }) = verdict else {
-        return f.write_str("ok clause 0: passed");
-    };
-    match (by, Clause::try_from(number)) {
-        (Choice::Irc, Ok(clause)) => write!(f, "ok clause {number}: {clause}"),
-        _ => write!(f, "ok clause {number}: not passed"),
-    }
-}
-
-// A late edit is told with what stands instead.
-fn tell_edit_refused<W: fmt::Write>(
-    refusal: EditRefusal,
-    stands: Stands,
-    f: &mut fmt::Formatter<W>,
-) -> fmt::Result {
-    write!(f, "refused {}: {refusal}", refusal.number())?;
-    match refusal {
-        EditRefusal::SequenceLower | EditRefusal::SequenceEqual => write!(f, "; {stands}"),
-        _ => Ok(()),
-    }
-}
-
-// The bytes of a book in hexadecimal.
-fn tell_book<W: fmt::Write>(bytes: &[u8], f: &mut fmt::Formatter<W>) -> fmt::Result {
-    write!(f, "ok {} ", bytes.len())?;
-    for byte in bytes {
-        write!(f, "{byte:02x}")?;
-    }
-    Ok(())
-}
-
-// The first fault of a book, its place and its layer.
-fn tell_fault<W: fmt::Write>(fault: BookFault, f: &mut fmt::Formatter<W>) -> fmt::Result {
-    write!(
-        f,
-        "refused {} byte {} layer {}: {fault}",
-        fault.number(),
-        fault.place(),
-        fault.layer()
-    )
-}
-
 impl fmt::Display for Answer {
     fn fmt<W: fmt::Write>(&self, f: &mut fmt::Formatter<W>) -> fmt::Result {
         match *self {
             Answer::Begun => f.write_str("ok: a new job: no pegs, no fixed levels, no code"),
-            Answer::Road(asked) => tell_road(asked, f),
+            Answer::Road(asked) => write!(f, "ok: {}", Line(asked)),
             Answer::Rows(count) => write!(f, "ok: rows for the next table: {count}"),
             Answer::Table(count) => write!(f, "ok: rows in the length table: {count}"),
             Answer::InUse(choice) => write!(f, "ok: {choice}"),
-            Answer::Verdict { verdict, by } => tell_verdict(verdict, by, f),
+            Answer::Verdict(verdict) => write!(f, "{verdict}"),
             Answer::Shortest(Ok(Length { metres })) => write!(
                 f,
                 "ok length {metres}: the shortest that passes"
             ),
-            Answer::Shortest(
-                Err(
-                    NoLength {
-                        clause: ClauseNumber { number },
-                    },
-                ),
-            ) => write!(f, "none clause {number}: no length up to 2000 m passes"),
-            Answer::Edited {
-                outcome: Ok(()),
-                stands,
-            } => write!(f, "ok: {stands}"),
-            Answer::Edited {
-                outcome: Err(refusal),
-                stands,
-            } => tell_edit_refused(refusal, stands, f),
-            Answer::Book(Ok(ref bytes)) => tell_book(bytes.as_slice(), f),
+            Answer::Shortest(Err(NoLength { clause })) => write!(
+                f,
+                "none clause {}: no length up to 2000 m passes",
+                clause.number
+            ),
+            Answer::Edited(edited) => write!(f, "{edited}"),
+            Answer::Book(Ok(ref bytes)) => write!(
+                f,
+                "ok {} {}",
+                bytes.len(),
+                Hex(bytes.as_slice())
+            ),
             Answer::Book(Err(short)) => write!(f, "refused {}: {short}", short.number()),
             Answer::BookRead(Ok(())) => f.write_str(
                 "ok: the book stands in place of all before it",
             ),
-            Answer::BookRead(Err(fault)) => tell_fault(fault, f),
+            Answer::BookRead(Err(fault)) => write!(
+                f,
+                "refused {} byte {} layer {}: {fault}",
+                fault.number(),
+                fault.place(),
+                fault.layer()
+            ),
             Answer::Refused(refusal) => write!(f, "refused {}: {refusal}", refusal.number()),
             Answer::Missing(missing) => write!(f, "not understood: {missing}"),
         }

@@ -4,7 +4,7 @@ ghost use Rattle.desk.specs.Desk.{Answers, AsItWas, AskedBy, BookTold, Chosen, E
 ghost use Rattle.desk.specs.declared.answer.Answer.TheVariants as answer;
 ghost use Rattle.desk.specs.declared.answer.Missing.TheVariants as missing;
 
-use crate::answer::{Answer, Missing, Stands};
+use crate::answer::{Answer, Edited, Missing, Stands, Verdict};
 use crate::call::{Call, Choice, Inquiry};
 use pegs::edit::Edit;
 use profile::profile::Profile;
@@ -45,8 +45,8 @@ fn judge<C: RoadCode>(code: &C, by: Choice, inquiry: Inquiry) -> Result<Answer, 
     match inquiry {
         Inquiry::Grade { from, to } => {
             let grade = Grade::between(from, to)?;
-            let verdict = code.grade(grade);
-            Ok(Answer::Verdict { verdict, by })
+            let told = code.grade(grade);
+            Ok(Answer::Verdict(Verdict { told, by }))
         }
         Inquiry::Curve {
             before,
@@ -56,8 +56,8 @@ fn judge<C: RoadCode>(code: &C, by: Choice, inquiry: Inquiry) -> Result<Answer, 
         } => {
             let turn = Turn::through(before, at, after)?;
             let length = Length::new(length)?;
-            let verdict = code.curve(turn, length);
-            Ok(Answer::Verdict { verdict, by })
+            let told = code.curve(turn, length);
+            Ok(Answer::Verdict(Verdict { told, by }))
         }
         Inquiry::Shortest { before, at, after } => {
             let turn = Turn::through(before, at, after)?;
@@ -225,7 +225,7 @@ impl Desk {
     {
         let outcome = self.profile.apply(edit);
         let stands = self.standing(edit);
-        Answer::Edited { outcome, stands }
+        Answer::Edited(Edited { outcome, stands })
     }
 
     // The book in a buffer of so many bytes. No book has more than 795, so no more are set aside.
