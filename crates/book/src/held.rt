@@ -29,6 +29,7 @@ const LEVEL: Field = Field {
 };
 
 // What the slots of a table may hold.
+// stays: contracts cite the three members one by one, since most definitions are of one or two of them.
 pub(crate) trait Held: Copy {
     ghost use Rattle.book.specs.declared.entry.Table.{Table};
 

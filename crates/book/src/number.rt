@@ -85,6 +85,7 @@ pub(crate) fn number_size(n: u32) -> usize
 }
 
 // Writes a number at the front, and tells how many bytes it takes.
+// stays: it and each writer above it state their room, size and text one by one, which callers need apart.
 pub(crate) fn write_number(out: &mut [u8], n: u32) -> usize
     requires { length (number n) ≤ length out.old }
     ensures size { result ≡ length (number n) }

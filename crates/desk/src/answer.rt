@@ -119,6 +119,7 @@ impl fmt::Display for Edited {
 }
 
 // Bytes in hexadecimal.
+// stays: by hand and not by the library, whose text would need memory, and printing has none
 #[derive(Clone, Copy)]
 struct Hex<'a>(&'a [u8]);
 
@@ -133,9 +134,9 @@ impl<'a> fmt::Display for Hex<'a> {
 
 // What a road's design speed asks, in one line.
 #[derive(Clone, Copy)]
-struct Line(Asked);
+struct Demands(Asked);
 
-impl fmt::Display for Line {
+impl fmt::Display for Demands {
     fn fmt<W: fmt::Write>(&self, f: &mut fmt::Formatter<W>) -> fmt::Result {
         let Asked {
             kmh,
@@ -177,7 +178,7 @@ impl fmt::Display for Answer {
     fn fmt<W: fmt::Write>(&self, f: &mut fmt::Formatter<W>) -> fmt::Result {
         match *self {
             Answer::Begun => f.write_str("ok: a new job: no pegs, no fixed levels, no code"),
-            Answer::Road(asked) => write!(f, "ok: {}", Line(asked)),
+            Answer::Road(asked) => write!(f, "ok: {}", Demands(asked)),
             Answer::Rows(count) => write!(f, "ok: rows for the next table: {count}"),
             Answer::Table(count) => write!(f, "ok: rows in the length table: {count}"),
             Answer::InUse(choice) => write!(f, "ok: {choice}"),

@@ -21,6 +21,7 @@ use rules::turn::Turn;
 use std::alloc::{AllocError, Global};
 
 // A length table that was accepted, with rows of its own.
+// stays: the clause is a plain number, as in the table that is made of it
 #[derive(Drop)]
 pub struct KeptTable {
     rows: Vec<Row>,
@@ -74,6 +75,7 @@ fn ask<C: RoadCode>(code: &C, by: Choice, inquiry: Inquiry) -> Answer
 }
 
 // A profile's book, copied from a buffer of the length that is asked for, or of 795 bytes.
+// stays: a match, since the copying in one arm can want memory, and what is too short is an answer and no error
 fn copy_book(heap: Global, profile: &Profile, out: &mut [u8]) -> Result<Answer, AllocError>
     ensures { IfOk result (λ a. (size : ℕ) → length out.old ≡ min size 795 → BookTold profile.now.tables size a) }
 {
@@ -229,6 +231,7 @@ impl Desk {
     }
 
     // The book in a buffer of so many bytes. No book has more than 795, so no more are set aside.
+    // stays: a buffer of fixed size, so that memory is asked for only once a book is written
     fn book(&self, heap: Global, size: u32) -> Result<Answer, AllocError>
         ensures { IfOk result (λ a. BookTold self.now.profile.tables size a) }
     {

@@ -12,7 +12,7 @@ use rules::refusal::Refusal;
 use std::fmt;
 
 // What is broken, and where: a peg and a fixed level are told by number, a stretch by its first peg.
-// stays: a clause is told by its number, and whoever makes a Broken may give any
+// stays: a clause is a plain number, since `number` and `Display` take any Broken, and a narrower field would ask more of whoever makes one
 #[derive(Clone, Copy)]
 pub enum Broken {
     Lengths,
@@ -119,7 +119,7 @@ impl<C: RoadCode> Judge<'_, C> {
         if !lengths_for(lengths, self.line.pegs.len()) {
             return Err(Broken::Lengths);
         }
-        // stays: nothing is indexed here, the place itself is passed on
+        // stays: tried as `try_for_each`, which leaves a goal over a run of a closure's calls that no short answer closes
         for i in 0..self.line.pegs.len() {
             self.check_at(lengths, i)?;
         }

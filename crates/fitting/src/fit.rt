@@ -14,7 +14,7 @@ use rules::shortest::shortest;
 use std::fmt;
 
 // Why there is no fit; a stretch is told by its first peg.
-// stays: a clause is told by its number, and whoever makes a NoFit may give any
+// stays: a clause is a plain number, since `number` and `Display` take any NoFit, and a narrower field would ask more of whoever makes one
 #[derive(Clone, Copy)]
 pub enum NoFit {
     StoreTooSmall,

@@ -29,6 +29,7 @@ impl GradeLine<'_> {
     }
 
     // The grade from the i-th peg to the next.
+    // stays: this and others ask that there is an i-th stretch; a type for that would hold the line, as Span does, and be made at each call
     pub(crate) fn grade_at(&self, i: usize) -> Grade
         requires { i + 1 < length self.now.pegs.now }
         ensures rise { result.rise ≡ climb self.now.pegs.now i }

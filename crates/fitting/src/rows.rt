@@ -21,7 +21,7 @@ pub(crate) fn row(store: &[u32], t: usize) -> &[u32]
 
 impl GradeLine<'_> {
     // The least entry of `next`, the row after peg t, whose length may stand after `left` at peg t.
-    // stays: it is told as the words of the lent store are, where u32::MAX stands for no total
+    // stays: a word as the lent store has them, in which u32::MAX stands for no total
     fn least_after(&self, next: &[u32], t: usize, left: Length) -> u32
         requires next { t + 1 < length self.now.pegs.now }
         requires count { length next.now ≡ 401 }
@@ -44,7 +44,7 @@ impl GradeLine<'_> {
 
 impl<C: RoadCode> PassedLine<'_, C> {
     // The least total from peg t on where t has the length 5 k; `after` begins with the row after, where there is one.
-    // stays: it is a word of the lent store, where u32::MAX stands for no total
+    // stays: a word as the lent store has them, in which u32::MAX stands for no total
     fn entry_of(&self, after: &[u32], t: usize, k: u32) -> u32
         requires there { t < length self.now.line.pegs.now }
         requires step { k < 401 }
@@ -81,6 +81,7 @@ impl<C: RoadCode> PassedLine<'_, C> {
     }
 
     // Fills the row of peg t from the row after.
+    // stays: that the store has room is asked here and by its other users one by one, since it is lent now to be written and now to be read
     fn fill_row(&self, store: &mut [u32], t: usize)
         requires there { t < length self.now.line.pegs.now }
         requires room { length self.now.line.pegs.now * 401 ≤ length store.old }

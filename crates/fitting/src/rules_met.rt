@@ -64,7 +64,7 @@ impl Span<'_> {
         requires { Apart self.now.line.pegs.now self.now.at self.now.left.metres self.now.right.metres }
         ensures { MatchOption result ((n : ℕ) → FixedKept self.now.line.pegs.now self.now.line.fixed.now self.now.at self.now.left.metres self.now.right.metres n) (λ n. (n < 16) × (FixedKept self.now.line.pegs.now self.now.line.fixed.now self.now.at self.now.left.metres self.now.right.metres n → ⊥) × ((m : ℕ) → m < n → FixedKept self.now.line.pegs.now self.now.line.fixed.now self.now.at self.now.left.metres self.now.right.metres m)) }
     {
-        // stays: the sixteen slots are gone through by number, which is how a fixed level is told
+        // stays: a `for` with index over the sixteen slots is the form that was settled for this test (docs/DECISIONS.md, Forms)
         for n in 0..16usize {
             if !self.level_kept(n) {
                 return Some(n);

@@ -9,6 +9,7 @@ pub enum Late {
 }
 
 // `last` begins at 0, and stays when what is held is taken away.
+// stays: 0 and no Option before the first edit, since every sequence number is above it, and one test serves the first edit and the later ones
 #[derive(Clone, Copy)]
 pub struct Slot<T> {
     pub last: u32,

@@ -7,7 +7,7 @@ use pegs::tables::Tables;
 pub mod calls;
 
 // Curve lengths in metres by peg number, and their total.
-// stays: an array beside the pegs' slots, since a profile never needs memory, and slots are also written by books
+// stays: an array beside the pegs' slots, since a profile never needs memory, and a book writes whole slots and knows no lengths
 #[derive(Clone, Copy)]
 pub struct Lengths {
     pub by_peg: [u32; 40],

@@ -12,6 +12,7 @@ impl ClauseNumber {
     ghost use Rattle.rules.specs.Told.{Told};
 
     // A verdict as a code tells it: passed where it is 0.
+    // stays: a function and no From, since neither a u8 nor a Result is a type of this crate.
     pub(crate) fn told(verdict: u8) -> Result<(), ClauseNumber>
         ensures { Told verdict result }
     {

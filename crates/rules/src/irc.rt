@@ -148,7 +148,7 @@ fn rule_for(road: Road, kind: Kind) -> SightRule
                 q: 9600,
                 clause: Clause::IntermediateSight,
             },
-            // a road whose speed gives no distance has no overtaking sight in an Irc
+            // stays: 0 where the speed gives no distance, as the rule's definition has it; no Irc has overtaking sight there
             Sight::Overtaking => SightRule {
                 distance: asked.overtaking.unwrap_or(0),
                 q: 9600,

@@ -28,8 +28,7 @@ pub fn shortest<C: RoadCode>(code: &C, turn: Turn) -> Result<Length, NoLength>
         return Ok(Length::of_steps(steps));
     }
     let longest = Length { metres: 2000 };
-    match code.curve(turn, longest) {
-        Ok(()) => Ok(longest),
-        Err(clause) => Err(NoLength { clause }),
-    }
+    code.curve(turn, longest)
+        .map_err(|clause| NoLength { clause })?;
+    Ok(longest)
 }

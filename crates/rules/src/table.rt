@@ -11,7 +11,7 @@ use crate::refusal::{Refusal, TableFault};
 use crate::turn::Turn;
 
 // A row as it came in: of kind 0 (summit) or 1 (valley), up to `change` thousandths, at least `least` metres, else the clause.
-// stays: the kind is a figure and no Kind, since rows stand as they came in, and a wrong figure is refused by its row's place.
+// stays: kind and clause are figures and no types of their own, since rows stand as they came in, and a wrong figure is refused by its row's place.
 #[derive(Clone, Copy)]
 pub struct Row {
     pub kind: u32,
@@ -133,9 +133,6 @@ impl<'a> RoadCode for LengthTable<'a> {
     }
 
     fn curve(&self, turn: Turn, at: Length) -> Result<(), ClauseNumber> {
-        match self.row_for(turn) {
-            Some(row) => row.verdict(at),
-            None => Err(NO_ROW),
-        }
+        self.row_for(turn).ok_or(NO_ROW)?.verdict(at)
     }
 }
