@@ -22,6 +22,7 @@ pub struct NumberFault {
 }
 
 // Why a number of an entry isn't one that may stand there.
+// stays: an enum beside EditRefusal, since five reasons are shared and each side has its own words and others of its own
 #[derive(Clone, Copy)]
 pub enum Misfit {
     NumberTooHigh,

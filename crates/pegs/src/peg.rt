@@ -1,6 +1,7 @@
 // What stands on a profile.
 
 // A grade intersection point: station in metres, level in millimetres.
+// stays: a type beside the rules' Point, which is any two figures from outside, while a peg is what an edit left
 #[derive(Clone, Copy)]
 pub struct Peg {
     pub station: u32,
