@@ -2,7 +2,6 @@
 use crate::reply::Misread;
 use crate::words::{figures, words_of};
 use desk::call::{Call, Choice, Inquiry};
-use hex::FromHexError;
 use pegs::edit::Edit;
 use rules::point::Point;
 use rules::road::RoadFigures;
@@ -47,34 +46,34 @@ fn point(station: u32, level: u32) -> Point {
     Point { station, level }
 }
 
-// An inquiry by its name and figures.
-fn read_inquiry<'a>(name: &'a str, rest: &[&'a str]) -> Result<Inquiry, Misread<'a>> {
+// An inquiry by its name and figures; none where the name is another's.
+fn read_inquiry<'a>(name: &str, rest: &[&'a str]) -> Result<Option<Inquiry>, Misread<'a>> {
     match name {
         "grade" => {
             let [s1, y1, s2, y2] = figures::<4>(rest)?;
-            Ok(Inquiry::Grade {
+            Ok(Some(Inquiry::Grade {
                 from: point(s1, y1),
                 to: point(s2, y2),
-            })
+            }))
         }
         "curve" => {
             let [s1, y1, s2, y2, s3, y3, length] = figures::<7>(rest)?;
-            Ok(Inquiry::Curve {
+            Ok(Some(Inquiry::Curve {
                 before: point(s1, y1),
                 at: point(s2, y2),
                 after: point(s3, y3),
                 length,
-            })
+            }))
         }
         "shortest" => {
             let [s1, y1, s2, y2, s3, y3] = figures::<6>(rest)?;
-            Ok(Inquiry::Shortest {
+            Ok(Some(Inquiry::Shortest {
                 before: point(s1, y1),
                 at: point(s2, y2),
                 after: point(s3, y3),
-            })
+            }))
         }
-        _ => Err(Misread::UnknownCall(name)),
+        _ => Ok(None),
     }
 }
 
@@ -127,10 +126,9 @@ fn read_bytes<'a>(heap: Global, rest: &[&'a str]) -> Result<Vec<u8>, Unread<'a>>
         let given = rest.len();
         return Err(Unread::Misread(Misread::Count { wanted: 1, given }));
     };
-    hex::decode(heap, *word).map_err(|error| match error {
-        FromHexError::OutOfMemory => Unread::Memory(AllocError),
-        _ => Unread::Misread(Misread::NoBytes(word)),
-    })
+    let mut bytes = vec![in heap; 0u8; word.len() / 2]?;
+    hex::decode_to_slice(*word, bytes.as_mut_slice()).map_err(|_| Misread::NoBytes(word))?;
+    Ok(bytes)
 }
 
 // The call that the words make: its name, then its figures.
@@ -165,8 +163,10 @@ fn read_call<'a>(name: &'a str, rest: &[&'a str]) -> Result<Call, Misread<'a>> {
         }
         "use" => read_choice(rest).map(Call::Use),
         "book" => read_size(rest).map(|size| Call::Book { size }),
-        "grade" | "curve" | "shortest" => read_inquiry(name, rest).map(Call::Ask),
-        _ => read_edit(name, rest).map(Call::Edit),
+        _ => match read_inquiry(name, rest)? {
+            Some(inquiry) => Ok(Call::Ask(inquiry)),
+            None => read_edit(name, rest).map(Call::Edit),
+        },
     }
 }
 
