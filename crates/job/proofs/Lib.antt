@@ -1,0 +1,4 @@
+pub mod Texts
+pub mod Hex
+pub mod Cutting
+pub mod Histories

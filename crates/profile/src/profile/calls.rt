@@ -1,20 +1,31 @@
 // The calls on a profile.
-ghost use Rattle.std.specs.Prelude.{◌≡◌, ◌<◌, ◌≤◌, List, length, MatchResult};
+ghost use Rattle.std.specs.Prelude.{◌≡◌, ◌<◌, ◌≤◌, List, length, take, is_some, MatchResult};
 ghost use Rattle.pegs.specs.Tables.{fixed_slot, peg_slot};
 ghost use Rattle.profile.specs.History.{Event, Run};
 ghost use Rattle.profile.specs.Law.{AnyOrder, AsEdited};
 ghost use Rattle.profile.specs.Reading.{BookRead, FaultTold, IsBook, ReadBack};
 ghost use Rattle.profile.specs.Steps.{Applied, New};
+ghost use Rattle.profile.specs.Fitting.{Examined, FitMade, FitRefused, Found, LengthAnswer, LevelAnswer, RefusedStore, fixed_of, pegs_of};
+ghost use Rattle.profile.specs.Promise.{Whole};
+ghost use Rattle.fitting.specs.Ready.{IsNotReady, Ready};
+ghost use Rattle.fitting.specs.Rules.{verdicts};
 ghost use Rattle.book.specs.Book.{encode};
 ghost use Rattle.book.specs.Writing.{Writes};
 
 use crate::profile::Profile;
+use crate::refusal::{AskRefusal, ExamineRefusal, FitRefusal, Totals};
 use book::fault::{BookFault, TooShort};
 use book::reading::read;
 use book::writing::write;
+use fitting::alignment::{Alignment, InRange};
+use fitting::examine::examine;
+use fitting::fit::{NoFit, fit};
+use fitting::fitted::Fitted;
+use fitting::ready::NotReady;
 use pegs::edit::{Edit, EditRefusal};
 use pegs::peg::{FixedLevel, Peg};
 use pegs::tables::Tables;
+use rules::code::RoadCode;
 
 impl Profile {
     // A profile without pegs or fixed levels, unfitted.
@@ -32,9 +43,13 @@ impl Profile {
     pub fn apply(&mut self, edit: Edit) -> Result<(), EditRefusal>
         ensures { Applied edit self.old self.new result }
     {
-        self.tables.apply(edit)?;
-        self.fitted = None;
-        Ok(())
+        match self.tables.apply(edit) {
+            Ok(()) => {
+                self.fitted = None;
+                Ok(())
+            }
+            Err(refusal) => Err(refusal),
+        }
     }
 
     // Reads a book in place of every peg, fixed level and remembered number, or tells the book's first fault.
@@ -72,6 +87,111 @@ impl Profile {
         ensures history { (h : List Event) → Run h self.now → AsEdited h self.now }
     {
         self.tables.fixed.get(number as usize)?.held
+    }
+
+    // The pegs in force and the fixed levels on them, or the first reason why they are not ready.
+    fn alignment(&self) -> Result<Alignment, NotReady>
+        ensures { MatchResult result (λ a. Ready (pegs_of self.now) (fixed_of self.now) × (take a.count a.pegs ≡ pegs_of self.now) × (a.fixed ≡ fixed_of self.now)) (λ e. IsNotReady (pegs_of self.now) (fixed_of self.now) e) }
+    {
+        let from = InRange {
+            tables: self.tables,
+        };
+        Alignment::ready(&from)
+    }
+
+    // Whether the lengths, one for each peg in force, meet every rule of the code, or the first that they break.
+    pub fn examine<C: RoadCode>(&self, code: &C, lengths: &[u32]) -> Result<(), ExamineRefusal>
+        ensures { Examined (verdicts (C.grade_verdict code.now) (C.curve_verdict code.now)) self.now lengths.now result }
+    {
+        match self.alignment() {
+            Ok(alignment) => match examine(&alignment, code, lengths) {
+                Ok(()) => Ok(()),
+                Err(broken) => Err(ExamineRefusal::Broken(broken)),
+            },
+            Err(reason) => Err(ExamineRefusal::NotReady(reason)),
+        }
+    }
+
+    // The best lengths of an alignment under the code, where its fitting may still be counted.
+    fn find<C: RoadCode>(&self, code: &C, store: &mut [u32]) -> Result<Fitted, FitRefusal>
+        ensures { MatchResult result (λ f. Found (verdicts (C.grade_verdict code.now) (C.curve_verdict code.now)) store.old store.new self.now f) (λ e. FitRefused (verdicts (C.grade_verdict code.now) (C.curve_verdict code.now)) (length store.old) self.now e × RefusedStore store.old store.new e) }
+    {
+        let alignment = match self.alignment() {
+            Ok(alignment) => alignment,
+            Err(reason) => return Err(FitRefusal::NotReady(reason)),
+        };
+        if store.len() < 401 * alignment.count {
+            return Err(FitRefusal::NoLengths(NoFit::StoreTooSmall));
+        }
+        if self.fittings >= 1_000_000_000 {
+            return Err(FitRefusal::TooOften);
+        }
+        match fit(&alignment, code, store) {
+            Ok(fitted) => Ok(fitted),
+            Err(reason) => Err(FitRefusal::NoLengths(reason)),
+        }
+    }
+
+    // Fits the lengths that meet every rule of the code with the least total, and of equal totals the first.
+    // The working store needs 401 words for each peg in force.
+    pub fn fit<C: RoadCode>(&mut self, code: &C, store: &mut [u32]) -> Result<Totals, FitRefusal>
+        ensures step { FitMade (verdicts (C.grade_verdict code.now) (C.curve_verdict code.now)) store.old store.new self.old self.new result }
+        ensures promise { (h : List Event) → Run h self.old → Whole h self.old }
+    {
+        match self.find(code, store) {
+            Ok(fitted) => {
+                self.fittings += 1;
+                self.fitted = Some(fitted);
+                Ok(Totals {
+                    turns: fitted.turns(),
+                    total: fitted.total,
+                })
+            }
+            Err(reason) => {
+                self.fitted = None;
+                Err(reason)
+            }
+        }
+    }
+
+    // The level at a station of a fitted profile, to the nearest millimetre, a half going up.
+    pub fn level(&self, station: u32) -> Result<u32, AskRefusal>
+        ensures { LevelAnswer (pegs_of self.now) self.now.fitted station result }
+    {
+        match self.fitted {
+            Some(fitted) => match fitted.level(station) {
+                Some(level) => Ok(level),
+                None => Err(AskRefusal::OffTheRoad),
+            },
+            None => Err(AskRefusal::Unfitted),
+        }
+    }
+
+    // The length of a peg's curve on a fitted profile.
+    pub fn length(&self, peg: u32) -> Result<u32, AskRefusal>
+        ensures { LengthAnswer (pegs_of self.now) self.now.fitted peg result }
+    {
+        match self.fitted {
+            Some(fitted) => match fitted.length(peg) {
+                Some(length) => Ok(length),
+                None => Err(AskRefusal::PegAbsent),
+            },
+            None => Err(AskRefusal::Unfitted),
+        }
+    }
+
+    // Whether an accepted fitting stands.
+    pub fn is_fitted(&self) -> bool
+        ensures { result ≡ is_some self.now.fitted }
+    {
+        self.fitted.is_some()
+    }
+
+    // How many fittings were accepted.
+    pub fn fittings(&self) -> u32
+        ensures { result ≡ self.now.fittings }
+    {
+        self.fittings
     }
 
     // A law for callers: edits that arrive in another order leave the same profile.
