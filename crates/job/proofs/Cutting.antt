@@ -1,24 +1,24 @@
--- A text cut into words, one at a time. Assumes nothing.
-use Rattle.std.proofs.Common.{◌≡◌, ℕ, ◌<◌, List, [], ◌∷◌, ◌++◌, map, length, sym, ap, ◌∙◌, subst, append_assoc, append-nil, Bor}
-use Rattle.std.proofs.lemmas.List.{map_push}
-use Rattle.std.specs.Str.{EmptyOrStartsWithPassing, NoCharPasses}
-use Rattle.std.specs.Char.{is_not_whitespace, is_whitespace}
-use Rattle.job.specs.Words.{Words, begins, ends}
+-- A text cut into words, and what stands before a comment. Assumes nothing.
+use Rattle.std.proofs.Common.{◌≡◌, ℕ, ◌<◌, ◌≢◌, List, [], ◌∷◌, ◌++◌, map, length, slice_index, Some, None, Option, sym, ap, subst, inl, inr, Bor, MatchOption}
+use Rattle.std.specs.Bool.{⊤}
+use Rattle.std.specs.Iterator.{DrainsIf}
+use Rattle.std.specs.Str.Iter.{split_whitespace_rest, split_whitespace_steps}
+use Rattle.std.specs.declared.str.SplitWhitespace.{SplitWhitespace}
+use Rattle.std.specs.Char.{is_not_whitespace}
+use Rattle.std.specs.Str.{NoCharPasses}
+use Rattle.job.specs.Words.{BeforeComment, Words, begins, ends}
 
--- what is left leads to these words, so the whole text leads to those found and these
-abbrev pub Leads : List ℕ → List (Bor (List ℕ)) → List ℕ → Type 0
-Leads text found rest = (ws : List (List ℕ)) → Words rest ws → Words text (map (λ x. x.now) found ++ ws)
+-- the words that come until none is left are the words of what was left at first
+pub drained : (s : SplitWhitespace) (xs : List (Bor (List ℕ))) → DrainsIf split_whitespace_steps ⊤ s xs → Words (split_whitespace_rest s) (map (λ x. x.now) xs)
+drained s [] h = ends (split_whitespace_rest s) (subst (λ (t : SplitWhitespace). NoCharPasses is_not_whitespace (split_whitespace_rest t)) (sym h.1) (h.2 tt).1.1)
+drained s (x ∷ xs) h =
+    let step = h.1.1 in
+    subst (λ t. Words t (map (λ y. y.now) (x ∷ xs))) (sym step.1)
+    (begins step.0 x.now (split_whitespace_rest h.1.0) (map (λ y. y.now) xs) step.3 step.2 step.4 step.5 (drained h.1.0 xs (h.0, h.1.2, h.2)))
 
-pub none_found : (text rest : List ℕ) (found : List (Bor (List ℕ))) → found ≡ [] → rest ≡ text → Leads text found rest
-none_found text rest found none same ws h = subst (λ f. Words text (map (λ x. x.now) f ++ ws)) (sym none) (subst (λ t. Words t ws) same h)
-
--- one word more
-pub word_found : (text rest next : List ℕ) (found more : List (Bor (List ℕ))) (w : Bor (List ℕ)) → Leads text found rest → more ≡ found ++ (w ∷ [])
-    → ((gap : List ℕ) × (rest ≡ gap ++ (w.now ++ next)) × (0 < length w.now) × NoCharPasses is_not_whitespace gap × NoCharPasses is_whitespace w.now × ((after : List ℕ) × EmptyOrStartsWithPassing is_whitespace next after)) → Leads text more next
-word_found text rest next found more w leads is step ws h =
-    let here : Words rest (w.now ∷ ws) = subst (λ t. Words t (w.now ∷ ws)) (sym step.1) (begins step.0 w.now next ws step.3 step.2 step.4 step.5 h) in
-    subst (Words text) (sym (ap (λ f. map (λ x. x.now) f ++ ws) is ∙ ap (λ l. l ++ ws) (map_push (λ x. x.now) found w) ∙ append_assoc (map (λ x. x.now) found) (w.now ∷ []) ws)) (leads (w.now ∷ ws) here)
-
--- no word is left
-pub all_found : (text rest : List ℕ) (found : List (Bor (List ℕ))) → Leads text found rest → NoCharPasses is_not_whitespace rest → Words text (map (λ x. x.now) found)
-all_found text rest found leads blank = subst (Words text) (append-nil (map (λ x. x.now) found)) (leads [] (ends rest blank))
+-- the text in front of the first '#', or the whole line
+pub fronted : (line front : List ℕ) (o : Option (Bor (List ℕ) × Bor (List ℕ)))
+    → MatchOption o ((i : ℕ) → i < length line → slice_index line i ≢ 35) (λ x. (line ≡ x.0.now ++ (35 ∷ x.1.now)) × ((i : ℕ) → i < length x.0.now → slice_index x.0.now i ≢ 35))
+    → MatchOption o (front ≡ line) (λ x. front ≡ x.0.now) → BeforeComment line front
+fronted line front None parts e = inl (parts, e)
+fronted line front (Some x) parts e = subst (BeforeComment line) (sym e) (inr (x.1.now, parts.0, parts.1))

@@ -164,7 +164,7 @@ fn read_lengths<'a>(heap: Global, rest: &[&'a str]) -> Result<Call, Unread<'a>>
 {
     let mut lengths = Vec::new(heap);
     for word in rest {
-        lengths.push(figure(word)?)?;
+        lengths.push(figure(word)?).map_err(AllocError::from)?;
     }
     Ok(Call::Examine(lengths))
 }

@@ -48,8 +48,8 @@ pub fn figures<'a, const N: usize>(words: &[&'a str]) -> Result<[u32; N], Misrea
         });
     }
     let mut read = [0; N];
-    for (place, word) in read.iter_mut().zip(words) {
-        *place = figure(word)?;
+    for (i, word) in words.iter().enumerate() {
+        read[i] = figure(word)?;
     }
     Ok(read)
 }

@@ -1,11 +1,7 @@
-use Rattle.std.proofs.Common.{Some, None, refl, inl, inr, arith}
+use Rattle.std.proofs.Common.{rules, arith}
 use Rattle.std.proofs.lemmas.Str.Pattern.{split_parts}
+use Rattle.job.proofs.Cutting.{fronted}
 use Rattle.job.proofs.words.before_comment.Goals as goal
 
-pub returns-in-Some : goal.returns-in-Some
-returns-in-Some c =
-    let parts = split_parts 35 c.args.line.now (Some (c.in-Some.front, c.in-Some.field-0-1)) c.in-Some.ensures.cases (omega arith) in
-    inr (c.in-Some.field-0-1.now, parts.0, parts.1)
-
-pub returns-in-None : goal.returns-in-None
-returns-in-None c = inl (split_parts 35 c.args.line.now None c.in-None.ensures.cases (omega arith), refl)
+pub returns : goal.returns
+returns c = fronted c.args.line.now c.map_or.result.now c.split_once.result (split_parts 35 c.args.line.now c.split_once.result c.split_once.ensures.cases (omega arith)) (search rules)
