@@ -189,11 +189,12 @@ impl Desk {
     }
 
     // A task that leaves the profile and needs no store.
-    fn consult(&self, task: Task) -> Result<Answer, Missing>
-        ensures { Consulted self.now task (told_of answer.Missing result) }
+    fn consult(&self, task: Task) -> Answer
+        ensures { Consulted self.now task result }
     {
         let mut profile = self.profile;
         self.do_in_use(task, &mut profile, &mut [])
+            .unwrap_or_else(Answer::Missing)
     }
 
     // Fits the profile with a store of so many words. No fitting needs more than 16,040, so no more are set aside.
@@ -353,20 +354,14 @@ impl Desk {
                     .unwrap_or_else(Answer::Refused),
             ),
             Call::Use(choice) => Ok(self.choose(choice).unwrap_or_else(Answer::Missing)),
-            Call::Ask(inquiry) => Ok(
-                self.consult(Task::Ask(inquiry))
-                    .unwrap_or_else(Answer::Missing),
-            ),
+            Call::Ask(inquiry) => Ok(self.consult(Task::Ask(inquiry))),
             Call::Edit(edit) => Ok(self.edit(edit)),
             Call::Book { size } => self.book(heap, size),
             Call::Read(bytes) => Ok(self.read(bytes.as_slice())),
             Call::Fit { words } => self.fit(heap, words),
             Call::Length { peg } => Ok(Answer::Length(self.profile.length(peg))),
             Call::Level { station } => Ok(Answer::Level(self.profile.level(station))),
-            Call::Examine(lengths) => Ok(
-                self.consult(Task::Examine(lengths))
-                    .unwrap_or_else(Answer::Missing),
-            ),
+            Call::Examine(lengths) => Ok(self.consult(Task::Examine(lengths))),
             Call::Begin {
                 first,
                 spacing,

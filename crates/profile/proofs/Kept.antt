@@ -1,6 +1,5 @@
 -- An edit keeps what holds of every slot. Assumes nothing.
-use Rattle.std.proofs.Common.{◌≡◌, ℕ, zero, suc, ◌^◌, ◌<◌, ◌≤◌, true, false, List, [], ◌∷◌, length, get_or, set, replicate, is_some, Some, None, Ok, Err, Option, Result, sym, refl, ap, ◌∙◌, subst, arith, length-set}
-use Rattle.book.specs.Sound.{Sound}
+use Rattle.std.proofs.Common.{◌≡◌, ℕ, zero, suc, ◌^◌, ◌<◌, ◌≤◌, true, false, List, [], ◌∷◌, length, get_or, set, replicate, is_some, Some, None, Ok, Err, Option, Result, sym, refl, ◌∙◌, subst, arith, length-set}
 use Rattle.fitting.specs.declared.fitted.Fitted.{Fitted}
 use Rattle.pegs.specs.Edits.{WellFormed}
 use Rattle.pegs.specs.Slots.{untouched}
@@ -30,82 +29,67 @@ at_replicate zero n = refl
 at_replicate (suc k) zero = refl
 at_replicate (suc k) (suc n) = at_replicate k n
 
--- all that holds of a peg's slot
-pub record PegSlotSound (s : Slot Peg) : Type 0 where
-  pub fine : (p : Peg) → s.held ≡ Some p → (p.station ≤ 10000) × (p.level ≤ 9000000)
+-- all that holds of a slot, where what it holds is fine
+pub record SlotSound {V : Type 0} (Fine : V → Type 0) (s : Slot V) : Type 0 where
+  pub fine : (v : V) → s.held ≡ Some v → Fine v
   pub fit : s.last < 2 ^ 32
   pub untouched_empty : s.last ≡ 0 → is_some s.held ≡ false
 
--- all that holds of a fixed level's slot
-pub record FixedSlotSound (s : Slot FixedLevel) : Type 0 where
-  pub fine : (f : FixedLevel) → s.held ≡ Some f → (f.station ≤ 10000) × (f.low ≤ f.high) × (f.high ≤ 9000000)
-  pub fit : s.last < 2 ^ 32
-  pub untouched_empty : s.last ≡ 0 → is_some s.held ≡ false
+abbrev PegFine : Peg → Type 0
+PegFine p = (p.station ≤ 10000) × (p.level ≤ 9000000)
+
+abbrev FixedLevelFine : FixedLevel → Type 0
+FixedLevelFine f = (f.station ≤ 10000) × (f.low ≤ f.high) × (f.high ≤ 9000000)
 
 -- all that holds of a profile's tables
 pub record TablesSound (t : Tables) : Type 0 where
   pub forty : length t.pegs ≡ 40
   pub sixteen : length t.fixed ≡ 16
-  pub pegs : (n : ℕ) → PegSlotSound (peg_slot t n)
-  pub fixed : (n : ℕ) → FixedSlotSound (fixed_slot t n)
+  pub pegs : (n : ℕ) → SlotSound PegFine (peg_slot t n)
+  pub fixed : (n : ℕ) → SlotSound FixedLevelFine (fixed_slot t n)
 
-no_peg : PegSlotSound untouched
-no_peg = record { fine = λ p e. let z : ◌≡◌ {A = ℕ} 0 1 = cc in absurd (omega arith); fit = omega arith; untouched_empty = λ _. refl }
+-- a slot that holds nothing is sound, and so is one that was written with what is fine
+empty_sound : {V : Type 0} (Fine : V → Type 0) (s : ℕ) → s < 2 ^ 32 → SlotSound Fine (record { last = s; held = None })
+empty_sound Fine s small = record { fine = λ v e. let z : ◌≡◌ {A = ℕ} 0 1 = cc in absurd (omega arith); fit = small; untouched_empty = λ _. refl }
 
-no_fixed : FixedSlotSound untouched
-no_fixed = record { fine = λ p e. let z : ◌≡◌ {A = ℕ} 0 1 = cc in absurd (omega arith); fit = omega arith; untouched_empty = λ _. refl }
+same_some : {V : Type 0} (x y : V) → ◌≡◌ {A = Option V} (Some x) (Some y) → x ≡ y
+same_some x y e = cc
+
+held_sound : {V : Type 0} (Fine : V → Type 0) (s : ℕ) (v : V) → 0 < s → s < 2 ^ 32 → Fine v → SlotSound Fine (record { last = s; held = Some v })
+held_sound Fine s v some small fine = record { fine = λ w e. subst Fine (same_some v w e) fine; fit = small; untouched_empty = λ z. absurd (omega arith) }
 
 pub new_sound : TablesSound no_tables
 new_sound = record {
   forty = refl;
   sixteen = refl;
-  pegs = λ n. subst PegSlotSound (sym (at_replicate 40 n)) no_peg;
-  fixed = λ n. subst FixedSlotSound (sym (at_replicate 16 n)) no_fixed;
+  pegs = λ n. subst (SlotSound PegFine) (sym (at_replicate 40 n)) (empty_sound PegFine 0 (omega arith));
+  fixed = λ n. subst (SlotSound FixedLevelFine) (sym (at_replicate 16 n)) (empty_sound FixedLevelFine 0 (omega arith));
 }
-
-lifted_peg : (s : ℕ) → 0 < s → s < 2 ^ 32 → PegSlotSound (record { last = s; held = None })
-lifted_peg s some small = record { fine = λ p e. let z : ◌≡◌ {A = ℕ} 0 1 = cc in absurd (omega arith); fit = small; untouched_empty = λ _. refl }
-
-cleared_fixed : (s : ℕ) → 0 < s → s < 2 ^ 32 → FixedSlotSound (record { last = s; held = None })
-cleared_fixed s some small = record { fine = λ p e. let z : ◌≡◌ {A = ℕ} 0 1 = cc in absurd (omega arith); fit = small; untouched_empty = λ _. refl }
-
-same_some : {V : Type 0} (x y : V) → ◌≡◌ {A = Option V} (Some x) (Some y) → x ≡ y
-same_some x y e = cc
 
 written_sound : (e : Edit) (b : Tables) → WellFormed e → TablesSound b → TablesSound (written e b)
 written_sound (Place m s st l) b w t = record {
   forty = length-set b.pegs m _ ∙ t.forty;
   sixteen = t.sixteen;
-  pegs = kept_by_set PegSlotSound b.pegs m _ t.pegs
-      (record {
-        fine = λ p e. let q = same_some (record { station = st; level = l }) p e in subst (λ (x : Peg). (x.station ≤ 10000) × (x.level ≤ 9000000)) q (w.near, w.low);
-        fit = w.sequenced.1;
-        untouched_empty = λ z. absurd (omega (arith, w.sequenced.0));
-      });
+  pegs = kept_by_set (SlotSound PegFine) b.pegs m _ t.pegs (held_sound PegFine s (record { station = st; level = l }) w.sequenced.0 w.sequenced.1 (w.near, w.low));
   fixed = t.fixed;
 }
 written_sound (Lift m s) b w t = record {
   forty = length-set b.pegs m _ ∙ t.forty;
   sixteen = t.sixteen;
-  pegs = kept_by_set PegSlotSound b.pegs m _ t.pegs (lifted_peg s w.sequenced.0 w.sequenced.1);
+  pegs = kept_by_set (SlotSound PegFine) b.pegs m _ t.pegs (empty_sound PegFine s w.sequenced.1);
   fixed = t.fixed;
 }
 written_sound (Fix m s st l h) b w t = record {
   forty = t.forty;
   sixteen = length-set b.fixed m _ ∙ t.sixteen;
   pegs = t.pegs;
-  fixed = kept_by_set FixedSlotSound b.fixed m _ t.fixed
-      (record {
-        fine = λ f e. let q = same_some (record { station = st; low = l; high = h }) f e in subst (λ (x : FixedLevel). (x.station ≤ 10000) × (x.low ≤ x.high) × (x.high ≤ 9000000)) q (w.near, w.ordered, w.low.1);
-        fit = w.sequenced.1;
-        untouched_empty = λ z. absurd (omega (arith, w.sequenced.0));
-      });
+  fixed = kept_by_set (SlotSound FixedLevelFine) b.fixed m _ t.fixed (held_sound FixedLevelFine s (record { station = st; low = l; high = h }) w.sequenced.0 w.sequenced.1 (w.near, w.ordered, w.low.1));
 }
 written_sound (Clear m s) b w t = record {
   forty = t.forty;
   sixteen = length-set b.fixed m _ ∙ t.sixteen;
   pegs = t.pegs;
-  fixed = kept_by_set FixedSlotSound b.fixed m _ t.fixed (cleared_fixed s w.sequenced.0 w.sequenced.1);
+  fixed = kept_by_set (SlotSound FixedLevelFine) b.fixed m _ t.fixed (empty_sound FixedLevelFine s w.sequenced.1);
 }
 
 -- after an edit, taken or refused
@@ -147,32 +131,7 @@ parts t fitted s here = record {
   fitted_here = here;
 }
 
--- an option that is empty has no value
-none_held : {V : Type 0} (o : Option V) → o ≡ None → is_some o ≡ false
-none_held o e = ap is_some e
-
--- what is read from a book is sound in a profile's own words, and a profile's tables are sound in the book's
-pub from_book : (t : Tables) → Sound t → TablesSound t
-from_book t s = record {
-  forty = s.peg_count;
-  sixteen = s.fixed_count;
-  pegs = λ n. record { fine = s.peg_good n; fit = s.peg_fits n; untouched_empty = λ z. none_held (peg_slot t n).held (s.peg_never n z) };
-  fixed = λ n. record { fine = s.fixed_good n; fit = s.fixed_fits n; untouched_empty = λ z. none_held (fixed_slot t n).held (s.fixed_never n z) };
-}
-
 -- an option without a value
 pub nothing_held : {V : Type 0} (o : Option V) → is_some o ≡ false → o ≡ None
 nothing_held None e = refl
 nothing_held (Some x) e = let z : ◌≡◌ {A = ℕ} 0 1 = cc in absurd (omega arith)
-
-pub to_book : (t : Tables) → TablesSound t → Sound t
-to_book t s = record {
-  peg_count = s.forty;
-  peg_fits = λ n. (s.pegs n).fit;
-  peg_never = λ n z. nothing_held (peg_slot t n).held ((s.pegs n).untouched_empty z);
-  peg_good = λ n. (s.pegs n).fine;
-  fixed_count = s.sixteen;
-  fixed_fits = λ n. (s.fixed n).fit;
-  fixed_never = λ n z. nothing_held (fixed_slot t n).held ((s.fixed n).untouched_empty z);
-  fixed_good = λ n. (s.fixed n).fine;
-}

@@ -14,6 +14,13 @@ pub struct Totals {
     pub total: u32,
 }
 
+impl fmt::Display for Totals {
+    fn fmt<W: fmt::Write>(&self, f: &mut fmt::Formatter<W>) -> fmt::Result {
+        write!(f, "turns {} total {}", self.turns, self.total)
+    }
+}
+
+// Why a fitting is refused.
 #[derive(Clone, Copy)]
 pub enum FitRefusal {
     NotReady(NotReady),
@@ -21,6 +28,7 @@ pub enum FitRefusal {
     NoLengths(NoFit),
 }
 
+// Why an examination is refused.
 #[derive(Clone, Copy)]
 pub enum ExamineRefusal {
     NotReady(NotReady),
@@ -67,16 +75,7 @@ impl AskRefusal {
     {
         match self {
             AskRefusal::Unfitted => 30,
-            AskRefusal::OffTheRoad => 31,
-            AskRefusal::PegAbsent => 31,
-        }
-    }
-
-    fn words(self) -> &'static str {
-        match self {
-            AskRefusal::Unfitted => "the profile is not fitted",
-            AskRefusal::OffTheRoad => "the station lies before the first peg or beyond the last",
-            AskRefusal::PegAbsent => "no such peg is in force",
+            AskRefusal::OffTheRoad | AskRefusal::PegAbsent => 31,
         }
     }
 }
@@ -104,6 +103,10 @@ impl fmt::Display for ExamineRefusal {
 
 impl fmt::Display for AskRefusal {
     fn fmt<W: fmt::Write>(&self, f: &mut fmt::Formatter<W>) -> fmt::Result {
-        f.write_str(self.words())
+        f.write_str(match self {
+            AskRefusal::Unfitted => "the profile is not fitted",
+            AskRefusal::OffTheRoad => "the station lies before the first peg or beyond the last",
+            AskRefusal::PegAbsent => "no such peg is in force",
+        })
     }
 }

@@ -28,20 +28,16 @@ impl SheetRefusal {
             SheetRefusal::TooShort => TooShort.number(),
         }
     }
+}
 
-    fn words(self) -> &'static str {
-        match self {
+impl fmt::Display for SheetRefusal {
+    fn fmt<W: fmt::Write>(&self, f: &mut fmt::Formatter<W>) -> fmt::Result {
+        f.write_str(match self {
             SheetRefusal::Spacing => "the spacing is not from 1 to 1000 m",
             SheetRefusal::Unfitted => "the profile is not fitted",
             SheetRefusal::Refitted => "the profile was fitted again since the sheet was begun",
             SheetRefusal::OffTheRoad => "the station lies before the first peg or beyond the last",
             SheetRefusal::TooShort => "the buffer is too short for the sheet",
-        }
-    }
-}
-
-impl fmt::Display for SheetRefusal {
-    fn fmt<W: fmt::Write>(&self, f: &mut fmt::Formatter<W>) -> fmt::Result {
-        f.write_str(self.words())
+        })
     }
 }

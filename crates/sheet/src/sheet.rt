@@ -1,6 +1,8 @@
 // A sheet that is being written.
 ghost use Rattle.std.specs.Prelude.{◌≤◌};
 
+use std::fmt;
+
 pub mod calls;
 
 // The place of the next byte, the station of the next row, the spacing, how many rows were written, and the profile's count of fittings when the sheet was begun.
@@ -22,4 +24,10 @@ pub struct Sheet {
 pub struct Row {
     pub station: u32,
     pub level: u32,
+}
+
+impl fmt::Display for Row {
+    fn fmt<W: fmt::Write>(&self, f: &mut fmt::Formatter<W>) -> fmt::Result {
+        write!(f, "{} {}", self.station, self.level)
+    }
 }

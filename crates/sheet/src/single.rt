@@ -13,11 +13,7 @@ pub fn one_row(
 ) -> Result<(u32, usize), SheetRefusal>
     ensures { Single profile.now station out.old out.new result }
 {
-    match Sheet::begin(profile, station, 1, out) {
-        Ok(mut sheet) => match sheet.row(profile, out) {
-            Ok(_) => Ok(sheet.end()),
-            Err(refusal) => Err(refusal),
-        },
-        Err(refusal) => Err(refusal),
-    }
+    let mut sheet = Sheet::begin(profile, station, 1, out)?;
+    sheet.row(profile, out)?;
+    Ok(sheet.end())
 }

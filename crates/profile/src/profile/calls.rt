@@ -43,13 +43,9 @@ impl Profile {
     pub fn apply(&mut self, edit: Edit) -> Result<(), EditRefusal>
         ensures { Applied edit self.old self.new result }
     {
-        match self.tables.apply(edit) {
-            Ok(()) => {
-                self.fitted = None;
-                Ok(())
-            }
-            Err(refusal) => Err(refusal),
-        }
+        self.tables.apply(edit)?;
+        self.fitted = None;
+        Ok(())
     }
 
     // Reads a book in place of every peg, fixed level and remembered number, or tells the book's first fault.
@@ -93,91 +89,63 @@ impl Profile {
     fn alignment(&self) -> Result<Alignment, NotReady>
         ensures { MatchResult result (λ a. Ready (pegs_of self.now) (fixed_of self.now) × (take a.count a.pegs ≡ pegs_of self.now) × (a.fixed ≡ fixed_of self.now)) (λ e. IsNotReady (pegs_of self.now) (fixed_of self.now) e) }
     {
-        let from = InRange {
+        Alignment::ready(&InRange {
             tables: self.tables,
-        };
-        Alignment::ready(&from)
+        })
     }
 
     // Whether the lengths, one for each peg in force, meet every rule of the code, or the first that they break.
     pub fn examine<C: RoadCode>(&self, code: &C, lengths: &[u32]) -> Result<(), ExamineRefusal>
-        ensures { Examined (verdicts (C.grade_verdict code.now) (C.curve_verdict code.now)) self.now lengths.now result }
+        ensures { Examined (verdicts C.RoadCode code.now) self.now lengths.now result }
     {
-        match self.alignment() {
-            Ok(alignment) => match examine(&alignment, code, lengths) {
-                Ok(()) => Ok(()),
-                Err(broken) => Err(ExamineRefusal::Broken(broken)),
-            },
-            Err(reason) => Err(ExamineRefusal::NotReady(reason)),
-        }
+        let alignment = self.alignment().map_err(ExamineRefusal::NotReady)?;
+        examine(&alignment, code, lengths).map_err(ExamineRefusal::Broken)
     }
 
     // The best lengths of an alignment under the code, where its fitting may still be counted.
     fn find<C: RoadCode>(&self, code: &C, store: &mut [u32]) -> Result<Fitted, FitRefusal>
-        ensures { MatchResult result (λ f. Found (verdicts (C.grade_verdict code.now) (C.curve_verdict code.now)) store.old store.new self.now f) (λ e. FitRefused (verdicts (C.grade_verdict code.now) (C.curve_verdict code.now)) (length store.old) self.now e × RefusedStore store.old store.new e) }
+        ensures { MatchResult result (λ f. Found (verdicts C.RoadCode code.now) store.old store.new self.now f) (λ e. FitRefused (verdicts C.RoadCode code.now) (length store.old) self.now e × RefusedStore store.old store.new e) }
     {
-        let alignment = match self.alignment() {
-            Ok(alignment) => alignment,
-            Err(reason) => return Err(FitRefusal::NotReady(reason)),
-        };
+        let alignment = self.alignment().map_err(FitRefusal::NotReady)?;
         if store.len() < 401 * alignment.count {
             return Err(FitRefusal::NoLengths(NoFit::StoreTooSmall));
         }
         if self.fittings >= 1_000_000_000 {
             return Err(FitRefusal::TooOften);
         }
-        match fit(&alignment, code, store) {
-            Ok(fitted) => Ok(fitted),
-            Err(reason) => Err(FitRefusal::NoLengths(reason)),
-        }
+        fit(&alignment, code, store).map_err(FitRefusal::NoLengths)
     }
 
     // Fits the lengths that meet every rule of the code with the least total, and of equal totals the first.
     // The working store needs 401 words for each peg in force.
     pub fn fit<C: RoadCode>(&mut self, code: &C, store: &mut [u32]) -> Result<Totals, FitRefusal>
-        ensures step { FitMade (verdicts (C.grade_verdict code.now) (C.curve_verdict code.now)) store.old store.new self.old self.new result }
+        ensures step { FitMade (verdicts C.RoadCode code.now) store.old store.new self.old self.new result }
         ensures promise { (h : List Event) → Run h self.old → Whole h self.old }
     {
-        match self.find(code, store) {
-            Ok(fitted) => {
-                self.fittings += 1;
-                self.fitted = Some(fitted);
-                Ok(Totals {
-                    turns: fitted.turns(),
-                    total: fitted.total,
-                })
-            }
-            Err(reason) => {
-                self.fitted = None;
-                Err(reason)
-            }
-        }
+        let found = self.find(code, store);
+        self.fitted = found.ok();
+        let fitted = found?;
+        self.fittings += 1;
+        Ok(Totals {
+            turns: fitted.turns(),
+            total: fitted.total,
+        })
     }
 
     // The level at a station of a fitted profile, to the nearest millimetre, a half going up.
     pub fn level(&self, station: u32) -> Result<u32, AskRefusal>
         ensures { LevelAnswer (pegs_of self.now) self.now.fitted station result }
     {
-        match self.fitted {
-            Some(fitted) => match fitted.level(station) {
-                Some(level) => Ok(level),
-                None => Err(AskRefusal::OffTheRoad),
-            },
-            None => Err(AskRefusal::Unfitted),
-        }
+        let fitted = self.fitted.ok_or(AskRefusal::Unfitted)?;
+        fitted.level(station).ok_or(AskRefusal::OffTheRoad)
     }
 
     // The length of a peg's curve on a fitted profile.
     pub fn length(&self, peg: u32) -> Result<u32, AskRefusal>
         ensures { LengthAnswer (pegs_of self.now) self.now.fitted peg result }
     {
-        match self.fitted {
-            Some(fitted) => match fitted.length(peg) {
-                Some(length) => Ok(length),
-                None => Err(AskRefusal::PegAbsent),
-            },
-            None => Err(AskRefusal::Unfitted),
-        }
+        let fitted = self.fitted.ok_or(AskRefusal::Unfitted)?;
+        fitted.length(peg).ok_or(AskRefusal::PegAbsent)
     }
 
     // Whether an accepted fitting stands.

@@ -21,22 +21,20 @@ impl Sheet {
     ) -> Result<Sheet, SheetRefusal>
         ensures { Beginning profile.now first spacing out.old out.new result }
     {
-        if spacing < 1 || spacing > WIDEST {
+        if !(1..=WIDEST).contains(&spacing) {
             return Err(SheetRefusal::Spacing);
         }
         if !profile.is_fitted() {
             return Err(SheetRefusal::Unfitted);
         }
-        match write_pair(out, 0, first, spacing) {
-            Ok(place) => Ok(Sheet {
-                place,
-                next: first,
-                spacing,
-                rows: 0,
-                fittings: profile.fittings(),
-            }),
-            Err(_) => Err(SheetRefusal::TooShort),
-        }
+        let place = write_pair(out, 0, first, spacing).map_err(|_| SheetRefusal::TooShort)?;
+        Ok(Sheet {
+            place,
+            next: first,
+            spacing,
+            rows: 0,
+            fittings: profile.fittings(),
+        })
     }
 
     // Writes the next station and its level at the sheet's place, and moves on by the spacing.
@@ -50,18 +48,15 @@ impl Sheet {
             return Err(SheetRefusal::Refitted);
         }
         let station = self.next;
-        match profile.level(station) {
-            Ok(level) => match write_pair(out, self.place, station, level) {
-                Ok(place) => {
-                    self.place = place;
-                    self.next = station + self.spacing;
-                    self.rows += 1;
-                    Ok(Row { station, level })
-                }
-                Err(_) => Err(SheetRefusal::TooShort),
-            },
-            Err(_) => Err(SheetRefusal::OffTheRoad),
-        }
+        let level = profile
+            .level(station)
+            .map_err(|_| SheetRefusal::OffTheRoad)?;
+        self.place = write_pair(out, self.place, station, level).map_err(
+            |_| SheetRefusal::TooShort,
+        )?;
+        self.next += self.spacing;
+        self.rows += 1;
+        Ok(Row { station, level })
     }
 
     // Ends the sheet, and tells how many rows and how many bytes were written: heading and accepted rows, and nothing else.

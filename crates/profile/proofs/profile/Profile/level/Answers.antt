@@ -1,21 +1,10 @@
-use Rattle.std.proofs.Common.{Some, None, Ok, Err, sym, refl, subst}
-use Rattle.fitting.specs.Laid.{LevelTold}
+use Rattle.std.proofs.Common.{sym, subst}
 use Rattle.profile.specs.Fitting.{LevelAnswer, pegs_of}
-use Rattle.profile.specs.Sound.{lengths_of}
-use Rattle.profile.specs.declared.refusal.AskRefusal.TheVariants as refusal
-use Rattle.profile.proofs.Fits.{on_line}
+use Rattle.profile.proofs.Fits.{level_told}
 use Rattle.profile.proofs.profile.Profile.level.Goals as goal
 
-pub returns-in-Some-level : goal.returns-in-Some-level
-returns-in-Some-level c =
+pub returns : goal.returns
+returns c =
     let p = c.args.self.now in
-    let f = c.in-Some.fitted in
-    subst (λ o. LevelAnswer (pegs_of p) o c.args.station (Ok c.in-Some-level.level)) (sym c.in-Some.is)
-    (subst (λ ps. LevelTold ps (lengths_of f) c.args.station (Some c.in-Some-level.level)) (on_line p f c.in-Some.is) c.in-Some-level.ensures)
-
-pub returns-in-None-level : goal.returns-in-None-level
-returns-in-None-level c =
-    let p = c.args.self.now in
-    let f = c.in-Some.fitted in
-    subst (λ o. LevelAnswer (pegs_of p) o c.args.station (Err refusal.OffTheRoad)) (sym c.in-Some.is)
-    (refl, subst (λ ps. LevelTold ps (lengths_of f) c.args.station None) (on_line p f c.in-Some.is) c.in-None-level.ensures)
+    subst (LevelAnswer (pegs_of p) p.fitted c.args.station) (sym c.ok_or-2.ensures.value)
+    (level_told p c.in_ok-fitted.fitted c.args.station c.level.result c.in_ok-fitted.ensures.ok_part c.level.ensures)
