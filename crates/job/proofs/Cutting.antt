@@ -1,5 +1,5 @@
 -- A text cut into words, and what stands before a comment. Assumes nothing.
-use Rattle.std.proofs.Common.{◌≡◌, ℕ, ◌<◌, ◌≢◌, List, [], ◌∷◌, ◌++◌, map, length, slice_index, Some, None, Option, sym, ap, subst, inl, inr, Bor, MatchOption}
+use Rattle.std.proofs.Common.{◌≡◌, ℕ, ◌<◌, ◌≢◌, List, [], ◌∷◌, ◌++◌, map, length, slice_index, Some, None, Option, sym, subst, inl, inr, Bor, MatchOption}
 use Rattle.std.specs.Bool.{⊤}
 use Rattle.std.specs.Iterator.{DrainsIf}
 use Rattle.std.specs.Str.Iter.{split_whitespace_rest, split_whitespace_steps}

@@ -1,5 +1,5 @@
 -- Bytes that the library reads from hexadecimal are those that the pairs of digits write. Assumes nothing.
-use Rattle.std.proofs.Common.{◌≡◌, ℕ, suc, zero, ◌+◌, ◌*◌, ◌%◌, ◌<◌, List, [], ◌∷◌, length, slice_index, Some, None, Ok, Err, Option, Result, refl, sym, ap, ◌∙◌, subst, arith, ⊎_elim, ◌⊎◌, ◌≤◌, ◌-◌}
+use Rattle.std.proofs.Common.{◌≡◌, ℕ, suc, zero, ◌+◌, ◌*◌, ◌<◌, List, [], ◌∷◌, length, slice_index, Some, None, Ok, Err, Option, Result, refl, sym, ap, ◌∙◌, subst, arith, ⊎_elim, ◌⊎◌, ◌≤◌, ◌-◌}
 use Rattle.std.specs.Result.{result_unwrap_or}
 use Rattle.std.specs.Char.{digit_value}
 use Rattle.hex.specs.Hex.{decode_of, decode_pairs, digit_or_error, hex_digit_value, pair_value, value_at, ◌>>=◌}

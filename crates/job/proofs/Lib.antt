@@ -1,4 +1,3 @@
-pub mod Texts
 pub mod Hex
 pub mod Cutting
 pub mod Histories
