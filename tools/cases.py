@@ -7,6 +7,7 @@ Run from the repository's root: tools/cases.py > crates/cases/stdin
 """
 import random
 from itertools import product
+from pathlib import Path
 
 import fitting_cases
 from model import ASKED, ONE_IN, PER_THOUSAND, SPEEDS, clause, number, read
@@ -328,3 +329,6 @@ for part in (roads, gradients, worked, figures, tables, edits, books, lines):
     say('use irc', 'ok')
     part()
 fitting_cases.main()
+# sixty jobs, whose answers were worked out from the rules by a calculation apart from this repository; sheets, worked out by hand
+for name in ('jobs.txt', 'sheets.txt'):
+    print((Path(__file__).parent / name).read_text(), end='')
