@@ -4,3 +4,4 @@
 pub mod answer;
 pub mod call;
 pub mod desk;
+pub mod running;

@@ -1,1 +1,4 @@
+pub mod Figures
+pub mod Names
 pub mod Runner
+pub mod Words

@@ -5,3 +5,6 @@ pub mod Kept
 pub mod Runs
 pub mod Standing
 pub mod Whole
+pub mod Promised
+pub mod SameLine
+pub mod Fits
