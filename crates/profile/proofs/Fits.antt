@@ -1,5 +1,5 @@
 -- A fitting's answers, carried from its alignment to the profile. Assumes nothing.
-use Rattle.std.proofs.Common.{◌≡◌, ℕ, true, List, length, take, Some, None, Ok, Err, sum, Option, Result, MatchResult, sym, refl, ◌∙◌, ap, subst}
+use Rattle.std.proofs.Common.{◌≡◌, ℕ, true, List, length, take, Some, None, Ok, Err, sum, Option, Result, MatchResult, sym, refl, ◌∙◌, ap, subst, arith}
 use Rattle.std.specs.Option.{ok_or}
 use Rattle.std.specs.Result.{IsErrAnd}
 use Rattle.fitting.specs.Best.{Best}
@@ -62,6 +62,13 @@ told c before after b a (Err e) (Ok f) ready room line same w left is = absurd i
 told c before after b a (Err e) (Err x) ready room line same w left is =
     subst (λ x. FitRefused c (length before) b x × RefusedStore before after x) (sym is)
     (none_found c before after b (take a.count a.pegs) a.fixed e ready line same w left)
+
+-- a profile is fitted by one fitting, or by none
+pub none_fitted : (f : Fitted) (o : Option Fitted) → o ≡ None → o ≡ Some f → ⊥
+none_fitted f o a b = let e : ◌≡◌ {A = Option Fitted} None (Some f) = sym a ∙ b in let z : ◌≡◌ {A = ℕ} 0 1 = cc in absurd (omega arith)
+
+pub same_fitted : (f g : Fitted) (o : Option Fitted) → o ≡ Some f → o ≡ Some g → f ≡ g
+same_fitted f g o a b = let e : ◌≡◌ {A = Option Fitted} (Some f) (Some g) = sym a ∙ b in cc
 
 -- a fitted profile's lengths are lengths of its pegs in force
 pub on_line : (p : Profile) (f : Fitted) → p.fitted ≡ Some f → line_of f ≡ pegs_of p

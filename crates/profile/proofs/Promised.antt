@@ -1,5 +1,5 @@
 -- Every history keeps the promise whole. Assumes nothing.
-use Rattle.std.proofs.Common.{◌≡◌, ℕ, List, [], ◌∷◌, ◌++◌, length, Some, None, Ok, Err, sum, Option, sym, refl, ap, ◌∙◌, subst, inl, inr, ⊎_elim, arith}
+use Rattle.std.proofs.Common.{◌≡◌, ℕ, List, [], ◌∷◌, ◌++◌, length, Some, Ok, Err, sum, sym, refl, ap, ◌∙◌, subst, inl, inr, ⊎_elim, arith}
 use Rattle.std.proofs.lemmas.List.{append_assoc}
 use Rattle.std.proofs.ByRecursion.{All-push}
 use Rattle.pegs.specs.declared.peg.FixedLevel.{FixedLevel}
@@ -21,6 +21,7 @@ use Rattle.profile.specs.Fitting.{FitRefused, fixed_of, pegs_of}
 use Rattle.profile.specs.History.{Answers, Event, Run, begins, edited, fitted, goes, read}
 use Rattle.profile.specs.Promise.{CannotFit, FittedByLast, LeftAlone, Promise, RefusedExactly}
 use Rattle.profile.specs.Sound.{lengths_of}
+use Rattle.profile.proofs.Fits.{none_fitted, same_fitted}
 use Rattle.profile.proofs.Runs.{stands_as_edited}
 
 -- a reason against a road bars that it is ready
@@ -59,9 +60,6 @@ refused_exactly p c before after a (Ok t) w = (
 )
 refused_exactly p c before after a (Err e) w = ((λ _. why c (length before) p e w.0), λ _. tt)
 
-none_fitted : (f : Fitted) (o : Option Fitted) → o ≡ None → o ≡ Some f → ⊥
-none_fitted f o a b = let e : ◌≡◌ {A = Option Fitted} None (Some f) = sym a ∙ b in let z : ◌≡◌ {A = ℕ} 0 1 = cc in absurd (omega arith)
-
 -- a refused edit or reading leaves the fitting as it is
 left : (h : List Event) (b a : Profile) (e : Event) (f : Fitted) → LeftAlone e → a.tables ≡ b.tables → FittedByLast h b f → FittedByLast (h ++ (e ∷ [])) a f
 left h b a e f alone same w = record {
@@ -77,9 +75,6 @@ left h b a e f alone same w = record {
   total = w.total;
   kept = w.kept;
 }
-
-same_fitted : (f g : Fitted) (o : Option Fitted) → o ≡ Some f → o ≡ Some g → f ≡ g
-same_fitted f g o a b = let e : ◌≡◌ {A = Option Fitted} (Some f) (Some g) = sym a ∙ b in cc
 
 step : (h : List Event) (e : Event) (b a : Profile) → Answers e b a → ((f : Fitted) → b.fitted ≡ Some f → FittedByLast h b f) → (f : Fitted) → a.fitted ≡ Some f → FittedByLast (h ++ (e ∷ [])) a f
 step h (edited e (Ok u)) b a w s f is = absurd (none_fitted f a.fitted w.1.fitted is)

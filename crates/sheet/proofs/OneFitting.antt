@@ -8,7 +8,7 @@ use Rattle.fitting.specs.declared.fitted.Fitted.{Fitted}
 use Rattle.profile.specs.History.{Answers, Event, edited, fitted, read}
 use Rattle.profile.specs.Sound.{lengths_of, line_of}
 use Rattle.profile.specs.declared.profile.Profile.{Profile}
-use Rattle.profile.proofs.Fits.{on_line}
+use Rattle.profile.proofs.Fits.{none_fitted, on_line, same_fitted}
 use Rattle.sheet.specs.declared.refusal.SheetRefusal.{SheetRefusal}
 use Rattle.sheet.specs.declared.sheet.Row.{Row}
 use Rattle.sheet.specs.declared.sheet.Sheet.{Sheet}
@@ -21,12 +21,6 @@ some_of : (o : Option Fitted) → is_some o ≡ true → (f : Fitted) × (o ≡ 
 some_of None e = let z : ◌≡◌ {A = ℕ} 0 1 = cc in absurd (omega arith)
 some_of (Some f) e = (f, refl)
 
-same_fitting : (f g : Fitted) (o : Option Fitted) → o ≡ Some f → o ≡ Some g → g ≡ f
-same_fitting f g o a b = cc
-
-no_fitting : (g : Fitted) (o : Option Fitted) → o ≡ None → o ≡ Some g → ⊥
-no_fitting g o a b = let z : ◌≡◌ {A = ℕ} 0 1 = cc in absurd (omega arith)
-
 -- from p, fitted by f, a profile came to q: while no fitting was counted, q is fitted by f or by none
 pub record Since (p q : Profile) (f : Fitted) : Type 0 where
   pub most : p.fittings ≤ q.fittings
@@ -34,7 +28,7 @@ pub record Since (p q : Profile) (f : Fitted) : Type 0 where
 
 -- a call that leaves the count and takes the fitting away
 lost : (p b a : Profile) (f : Fitted) → a.fittings ≡ b.fittings → a.fitted ≡ None → Since p b f → Since p a f
-lost p b a f e n s = record { most = omega (arith, s.most); same = λ _ g is. absurd (no_fitting g a.fitted n is) }
+lost p b a f e n s = record { most = omega (arith, s.most); same = λ _ g is. absurd (none_fitted g a.fitted n is) }
 
 -- a call that leaves both
 stays : (p b a : Profile) (f : Fitted) → a.fittings ≡ b.fittings → a.fitted ≡ b.fitted → Since p b f → Since p a f
@@ -74,7 +68,7 @@ row p q f s t before after (Err x) e s' m = (m.1.fittings ∙ e, tt)
 
 module _ (first spacing : ℕ) (buffer : List ℕ) (p : Profile) where
   held : (f : Fitted) → p.fitted ≡ Some f → {h : List Call} {q : Profile} {s : Sheet} {bytes : List ℕ} → RoadRun first spacing buffer p h q s bytes → Held p q f h s
-  held f is (starts after s b) = record { count = b.fittings; since = record { most = omega arith; same = λ _ g is-g. same_fitting f g p.fitted is is-g }; rows = tt }
+  held f is (starts after s b) = record { count = b.fittings; since = record { most = omega arith; same = λ _ g is-g. same_fitted g f p.fitted is-g is }; rows = tt }
   held f is (changes h b s bytes e a r w) =
       let z = held f is r in
       record { count = z.count; since = since p b a f e w z.since; rows = one_more f h (changed e) z.rows tt }
