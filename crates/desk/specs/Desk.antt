@@ -103,8 +103,14 @@ abbrev pub irc_verdicts : Irc → Verdicts
 irc_verdicts c = record { grade = irc_grade c.road; curve = irc_curve c.road }
 
 -- the verdicts of an accepted table
+abbrev pub kept_grade : KeptTable → ℤ → ℕ → ℕ
+kept_grade t = table_grade t.bound t.clause
+
+abbrev pub kept_curve : KeptTable → Bend → ℕ → ℕ
+kept_curve t = table_curve (vec_items t.rows)
+
 abbrev pub kept_verdicts : KeptTable → Verdicts
-kept_verdicts t = record { grade = table_grade t.bound t.clause; curve = table_curve (vec_items t.rows) }
+kept_verdicts t = record { grade = kept_grade t; curve = kept_curve t }
 
 -- the verdicts of the stricter of two codes
 abbrev pub stricter_verdicts : Verdicts → Verdicts → Verdicts

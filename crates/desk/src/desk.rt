@@ -338,7 +338,7 @@ impl Desk {
         Ok(Answer::SheetEnded(running.end()))
     }
 
-    // Makes the call. Where memory for a row is wanting, the desk stays as it was.
+    // Makes the call. Where memory is wanting, the desk stays as it was.
     pub fn make(&mut self, heap: Global, call: Call) -> Result<Answer, AllocError>
         ensures { MatchResult result (λ a. Made self.old call self.new a) (λ _. AsItWas self.old self.new) }
     {

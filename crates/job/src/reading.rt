@@ -138,6 +138,7 @@ fn figure_or<'a>(rest: &[&'a str], usual: u32) -> Result<u32, Misread<'a>>
 }
 
 // The bytes that a word writes in hexadecimal.
+#[tactic(auto, using(crate::proofs::Hex::bytes_read))]
 fn bytes_of<'a>(heap: Global, word: &'a str) -> Result<Vec<u8>, Unread<'a>>
     ensures { IfOk result (λ v. Bytes word.now v.items) }
 {

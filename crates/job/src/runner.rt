@@ -10,6 +10,7 @@ use std::alloc::{AllocError, Global};
 
 // The answer to a line; none to a line without words. The line moves the desk by the call that its words name,
 // or not at all, so that every job is a history of its profile.
+#[tactic(auto, using(crate::proofs::Histories::job_history))]
 pub fn answer_line<'a>(
     heap: Global,
     desk: &mut Desk,

@@ -14,6 +14,7 @@ fn before_comment(line: &str) -> &str
 }
 
 // The words of a text, cut at white space.
+#[tactic(auto, using(crate::proofs::Cutting::drained))]
 fn cut(heap: Global, text: &str) -> Result<Vec<&str>, AllocError>
     ensures { IfOk result (λ v. Words text.now (map (λ x. x.now) v.items)) }
 {
