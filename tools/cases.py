@@ -1,16 +1,19 @@
 #!/usr/bin/env python3
 """Writes the cases of crates/cases: calls of the job language with the answers that they should have.
 
-The answers are worked out here and in tools/model.py from docs/ in exact whole numbers, and never from what the program says.
-The cases of fittings are in tools/fitting_cases.py.
+The answers are worked out here from docs/ in exact whole numbers, and never from what the program says.
 Run from the repository's root: tools/cases.py > crates/cases/stdin
 """
 import random
 from itertools import product
-from pathlib import Path
 
-import fitting_cases
-from model import ASKED, ONE_IN, PER_THOUSAND, SPEEDS, clause, number, read
+SPEEDS = {0: [(100, 80), (80, 65), (50, 40), (40, 30)], 1: [(80, 65), (65, 50), (40, 30), (30, 20)],
+          2: [(65, 50), (50, 40), (30, 25), (25, 20)], 3: [(50, 40), (40, 35), (25, 20), (25, 20)]}
+#        km/h: stopping, overtaking, free change, least length
+ASKED = {20: (20, None, 15, 15), 25: (25, None, 15, 15), 30: (30, None, 15, 15), 35: (45, None, 15, 15), 40: (45, 165, 12, 20),
+         50: (60, 235, 10, 30), 65: (90, 340, 8, 40), 80: (120, 470, 6, 50), 100: (180, 640, 5, 60)}
+ONE_IN = [30, 20, 15]
+PER_THOUSAND = {2: [50, 60, 70], 3: [60, 70, 80]}
 
 
 def say(call, want):
@@ -19,6 +22,21 @@ def say(call, want):
 
 def points(*ps):
     return ' '.join(f'{s} {y}' for s, y in ps)
+
+
+def clause(kmh, sight, w, b, length):
+    """The clause of a curve with W = w and B = b, or 0."""
+    stopping, overtaking, free, least = ASKED[kmh]
+    if abs(w) <= free * b:
+        return 0
+    if length < least:
+        return 2
+    if w < 0:
+        s, q, c = [(stopping, 4400, 3), (2 * stopping, 9600, 4), (overtaking, 9600, 5)][sight]
+    else:
+        s, q, c = stopping, 1500 + 35 * stopping, 6
+    fine = length * q * b >= abs(w) * s * s if length >= s else (2 * s - length) * abs(w) <= q * b
+    return 0 if fine else c
 
 
 def turn(w):
@@ -223,6 +241,82 @@ class Site:
             say(call, f'refused {refusal}')
 
 
+def number(n):
+    """A number in groups of seven bits, lowest first."""
+    groups = []
+    while n >= 128:
+        groups.append(128 + n % 128)
+        n //= 128
+    return bytes(groups + [n])
+
+
+class Fault(Exception):
+    pass
+
+
+def take(book, at):
+    """The number at a place and the place after it, or the fault of the number's layer."""
+    value, k = 0, 0
+    while True:
+        if at + k >= len(book):
+            raise Fault(11, at, 'number')
+        value += (book[at + k] % 128) << (7 * k)
+        if book[at + k] < 128:
+            break
+        k += 1
+        if k == 5:
+            raise Fault(11, at, 'number')
+    if (k and book[at + k] == 0) or value > 4294967295:
+        raise Fault(11, at, 'number')
+    return value, at + k + 1
+
+
+def read(book):
+    """The first fault of a book, or None."""
+    def entry(at, most, low, figures):
+        n, end = take(book, at)
+        if n > most:
+            raise Fault(1, at, 'entry')
+        if n < low:
+            raise Fault(12, at, 'entry')
+        at = end
+        sequence, end = take(book, at)
+        if sequence == 0:
+            raise Fault(2, at, 'entry')
+        at = end
+        mark, end = take(book, at)
+        if mark > 1:
+            raise Fault(12, at, 'entry')
+        last = 0
+        for k in range(figures if mark else 0):
+            at = end
+            y, end = take(book, at)
+            if y > (9_000_000 if k else 10_000):
+                raise Fault(4 if k else 3, at, 'entry')
+            if k == 2 and y < last:
+                raise Fault(5, at, 'entry')
+            last = y
+        return n, end
+
+    try:
+        form, at = take(book, 0)
+        if form != 1:
+            raise Fault(12, 0, 'book')
+        for most, figures in ((39, 2), (15, 3)):
+            count, end = take(book, at)
+            if count > most + 1:
+                raise Fault(12, at, 'book')
+            at, low = end, 0
+            for _ in range(count):
+                n, at = entry(at, most, low, figures)
+                low = n + 1
+        if at < len(book):
+            raise Fault(12, at, 'book')
+    except Fault as fault:
+        return fault.args
+    return None
+
+
 def books():
     """A small book cut at every byte, with every number of it changed, and with numbers in other forms."""
     for call in ('place 0 3 500 120000', 'place 7 300 10000 9000000', 'lift 9 4', 'fix 1 5 620 118000 118050', 'clear 4 6'):
@@ -328,7 +422,3 @@ for part in (roads, gradients, worked, figures, tables, edits, books, lines):
     say('irc 0 0 0 1 0', 'ok')
     say('use irc', 'ok')
     part()
-fitting_cases.main()
-# sixty jobs, whose answers were worked out from the rules by a calculation apart from this repository; sheets, worked out by hand
-for name in ('jobs.txt', 'sheets.txt'):
-    print((Path(__file__).parent / name).read_text(), end='')

@@ -1,5 +1,5 @@
 -- What a call does to the desk of a job, and what it answers. Assumes nothing.
-use Rattle.std.specs.Prelude.{◌≡◌, ℕ, ◌%◌, ◌<◌, ◌≤◌, min, ◌⊎◌, List, [], ◌∷◌, ◌++◌, length, take, ℤ, Some, None, Ok, Err, vec_items, Result, IsSomeAnd, MatchOption, MatchResult}
+use Rattle.std.specs.Prelude.{◌≡◌, ℕ, ◌%◌, ◌<◌, ◌≤◌, ◌⊎◌, List, [], ◌∷◌, ◌++◌, length, ℤ, Some, None, Ok, Err, vec_items, Result, IsSomeAnd, MatchOption, MatchResult}
 use Rattle.pegs.specs.Tables.{fixed_slot, peg_slot}
 use Rattle.pegs.specs.declared.edit.Edit.{Edit}
 use Rattle.pegs.specs.declared.edit.Edit.TheVariants as edit
@@ -7,11 +7,8 @@ use Rattle.pegs.specs.declared.edit.EditRefusal.{EditRefusal}
 use Rattle.pegs.specs.declared.tables.Tables.{Tables}
 use Rattle.book.specs.Book.{encode}
 use Rattle.book.specs.declared.fault.BookFault.{BookFault}
-use Rattle.fitting.specs.Rules.{Verdicts}
-use Rattle.profile.specs.Fitting.{Examined, FitMade, LengthAnswer, LevelAnswer, pegs_of}
 use Rattle.profile.specs.Reading.{BookRead}
 use Rattle.profile.specs.Steps.{Applied, New}
-use Rattle.profile.specs.declared.profile.Profile.{Profile}
 use Rattle.rules.specs.Irc.{irc_curve, irc_grade, IrcRefused}
 use Rattle.rules.specs.Points.{PointsRefused, PointsSound, rise, run}
 use Rattle.rules.specs.Roads.{Named}
@@ -26,12 +23,7 @@ use Rattle.rules.specs.declared.refusal.Refusal.{Refusal}
 use Rattle.rules.specs.declared.refusal.Refusal.TheVariants.{LengthOutOfStep}
 use Rattle.rules.specs.declared.road.RoadFigures.{RoadFigures}
 use Rattle.rules.specs.declared.table.Row.{Row}
-use Rattle.rules.specs.declared.irc.Irc.{Irc}
 use Rattle.rules.specs.declared.turn.Bend.{Bend}
-use Rattle.sheet.specs.Sheets.{RowMade}
-use Rattle.desk.specs.Running.{RunningBegun}
-use Rattle.desk.specs.declared.running.NotBegun.TheVariants.{Refused}
-use Rattle.desk.specs.declared.running.Running.{Running}
 use Rattle.desk.specs.declared.answer.Answer.{Answer}
 use Rattle.desk.specs.declared.answer.Answer.TheVariants as answer
 use Rattle.desk.specs.declared.answer.Stands.{Stands}
@@ -42,8 +34,6 @@ use Rattle.desk.specs.declared.call.Choice.{Choice}
 use Rattle.desk.specs.declared.call.Choice.TheVariants as choice
 use Rattle.desk.specs.declared.call.Inquiry.{Inquiry}
 use Rattle.desk.specs.declared.call.Inquiry.TheVariants as inquiry
-use Rattle.desk.specs.declared.call.Task.{Task}
-use Rattle.desk.specs.declared.call.Task.TheVariants as task
 use Rattle.desk.specs.declared.desk.Desk.{Desk}
 use Rattle.desk.specs.declared.desk.KeptTable.{KeptTable}
 use Rattle.desk.specs.declared.answer.Missing.{Missing}
@@ -79,28 +69,8 @@ told_of tell (Ok a) = a
 told_of tell (Err e) = tell e
 
 -- what is told of an inquiry by a code with these verdicts
-abbrev pub ToldBy : (grade : ℤ → ℕ → ℕ) (curve : Bend → ℕ → ℕ) → Choice → Inquiry → Answer → Type 0
-ToldBy grade curve by q a = (r : Result Answer Refusal) × Answers grade curve by q r × (a ≡ told_of answer.Refused r)
-
--- a fitting of the profile by a code with these verdicts, as its answer tells
-abbrev pub FitTold : Verdicts → Profile → Profile → List ℕ → List ℕ → Answer → Type 0
-FitTold c p p' before after (answer.Fitted r) = FitMade c before after p p' r
-FitTold c p p' before after _ = ⊥
-
--- an examination of lengths by a code with these verdicts, as its answer tells
-abbrev pub ExamineTold : Verdicts → Profile → List ℕ → Answer → Type 0
-ExamineTold c p ls (answer.Examined r) = Examined c p ls r
-ExamineTold c p ls _ = ⊥
-
--- a task done by a code with these verdicts: the profile and the store before and after it, and the answer
-abbrev pub Done : Verdicts → Choice → Task → Profile → Profile → List ℕ → List ℕ → Answer → Type 0
-Done c by (task.Ask q) p p' before after a = (p' ≡ p) × ToldBy c.grade c.curve by q a
-Done c by task.Fit p p' before after a = FitTold c p p' before after a
-Done c by (task.Examine ls) p p' before after a = (p' ≡ p) × ExamineTold c p (vec_items ls) a
-
--- the verdicts of a code of the standard
-abbrev pub irc_verdicts : Irc → Verdicts
-irc_verdicts c = record { grade = irc_grade c.road; curve = irc_curve c.road }
+abbrev pub ToldBy : (grade : ℤ → ℕ → ℕ) (curve : Bend → ℕ → ℕ) → Choice → Inquiry → Result Answer Missing → Type 0
+ToldBy grade curve by q r = (s : Result Answer Refusal) × Answers grade curve by q s × (r ≡ Ok (told_of answer.Refused s))
 
 -- the verdicts of an accepted table
 abbrev pub kept_grade : KeptTable → ℤ → ℕ → ℕ
@@ -109,50 +79,20 @@ kept_grade t = table_grade t.bound t.clause
 abbrev pub kept_curve : KeptTable → Bend → ℕ → ℕ
 kept_curve t = table_curve (vec_items t.rows)
 
-abbrev pub kept_verdicts : KeptTable → Verdicts
-kept_verdicts t = record { grade = kept_grade t; curve = kept_curve t }
+-- the inquiry goes to the code that the choice names; of two codes to the stricter, in that order
+abbrev pub AskedBy : Desk → Choice → Inquiry → Result Answer Missing → Type 0
+AskedBy d choice.Irc q r = MatchOption d.irc (r ≡ Err missing.Irc) (λ c. ToldBy (irc_grade c.road) (irc_curve c.road) choice.Irc q r)
+AskedBy d choice.Table q r = MatchOption d.table (r ≡ Err missing.Table) (λ t. ToldBy (kept_grade t) (kept_curve t) choice.Table q r)
+AskedBy d choice.IrcThenTable q r =
+    MatchOption d.irc (r ≡ Err missing.Irc) (λ c. MatchOption d.table (r ≡ Err missing.Table) (λ t.
+    ToldBy (stricter_of (irc_grade c.road) (kept_grade t)) (stricter_of (irc_curve c.road) (kept_curve t)) choice.IrcThenTable q r))
+AskedBy d choice.TableThenIrc q r =
+    MatchOption d.table (r ≡ Err missing.Table) (λ t. MatchOption d.irc (r ≡ Err missing.Irc) (λ c.
+    ToldBy (stricter_of (kept_grade t) (irc_grade c.road)) (stricter_of (kept_curve t) (irc_curve c.road)) choice.TableThenIrc q r))
 
--- the verdicts of the stricter of two codes
-abbrev pub stricter_verdicts : Verdicts → Verdicts → Verdicts
-stricter_verdicts c d = record { grade = stricter_of c.grade d.grade; curve = stricter_of c.curve d.curve }
-
--- a task done by a code with these verdicts, and no code is missing
-abbrev pub DoneWith : Verdicts → Choice → Task → Profile → Profile → List ℕ → List ℕ → Result Answer Missing → Type 0
-DoneWith c by task p p' before after r = MatchResult r (λ a. Done c by task p p' before after a) (λ _. ⊥)
-
--- a code is missing, and nothing is done
-abbrev pub NotDone : Missing → Profile → Profile → Result Answer Missing → Type 0
-NotDone m p p' r = (r ≡ Err m) × (p' ≡ p)
-
--- a task goes to the code that the choice names; of two codes to the stricter, in that order
-abbrev pub DoneBy : Desk → Choice → Task → Profile → Profile → List ℕ → List ℕ → Result Answer Missing → Type 0
-DoneBy d choice.Irc task p p' before after r =
-    MatchOption d.irc (NotDone missing.Irc p p' r) (λ c. DoneWith (irc_verdicts c) choice.Irc task p p' before after r)
-DoneBy d choice.Table task p p' before after r =
-    MatchOption d.table (NotDone missing.Table p p' r) (λ t. DoneWith (kept_verdicts t) choice.Table task p p' before after r)
-DoneBy d choice.IrcThenTable task p p' before after r =
-    MatchOption d.irc (NotDone missing.Irc p p' r) (λ c. MatchOption d.table (NotDone missing.Table p p' r) (λ t.
-    DoneWith (stricter_verdicts (irc_verdicts c) (kept_verdicts t)) choice.IrcThenTable task p p' before after r))
-DoneBy d choice.TableThenIrc task p p' before after r =
-    MatchOption d.table (NotDone missing.Table p p' r) (λ t. MatchOption d.irc (NotDone missing.Irc p p' r) (λ c.
-    DoneWith (stricter_verdicts (kept_verdicts t) (irc_verdicts c)) choice.TableThenIrc task p p' before after r))
-
--- a task goes to the code in use
-abbrev pub DoneInUse : Desk → Task → Profile → Profile → List ℕ → List ℕ → Answer → Type 0
-DoneInUse d task p p' before after a =
-    MatchOption d.choice ((a ≡ answer.Missing missing.Code) × (p' ≡ p)) (λ by. (r : Result Answer Missing) × DoneBy d by task p p' before after r × (a ≡ told_of answer.Missing r))
-
--- an inquiry or an examination by the code in use: the profile stays
-abbrev pub Consulted : Desk → Task → Answer → Type 0
-Consulted d task a = (p' : Profile) × (after : List ℕ) × DoneInUse d task d.profile p' [] after a
-
--- a fitting by the code in use, with a store of so many words; 16,040 suffice for forty pegs
-pub record FitDone (d : Desk) (words : ℕ) (d' : Desk) (a : Answer) : Type 0 where
-  pub before : List ℕ
-  pub after : List ℕ
-  pub size : length before ≡ min words 16040
-  pub profile : DoneInUse d task.Fit d.profile d'.profile before after a
-  pub rest : d' ≡ record d { profile = d'.profile }
+-- an inquiry to the code in use
+abbrev pub Inquired : Desk → Inquiry → Answer → Type 0
+Inquired d q a = MatchOption d.choice (a ≡ answer.Missing missing.Code) (λ c. (r : Result Answer Missing) × AskedBy d c q r × (a ≡ told_of answer.Missing r))
 
 -- a desk with nothing on it
 pub record Empty (d : Desk) : Type 0 where
@@ -161,7 +101,6 @@ pub record Empty (d : Desk) : Type 0 where
   pub rows : vec_items d.rows ≡ []
   pub table : d.table ≡ None
   pub choice : d.choice ≡ None
-  pub sheet : d.sheet ≡ None
 
 -- the same things on the desk
 pub record AsItWas (d d' : Desk) : Type 0 where
@@ -170,7 +109,6 @@ pub record AsItWas (d d' : Desk) : Type 0 where
   pub rows : vec_items d'.rows ≡ vec_items d.rows
   pub table : d'.table ≡ d.table
   pub choice : d'.choice ≡ d.choice
-  pub sheet : d'.sheet ≡ d.sheet
 
 -- a code of the standard, or the refusal and the desk as it was
 abbrev pub IrcMade : Desk → RoadFigures → Desk → Answer → Type 0
@@ -186,7 +124,6 @@ pub record RowAdded (d : Desk) (row : Row) (d' : Desk) (a : Answer) : Type 0 whe
   pub irc : d'.irc ≡ d.irc
   pub table : d'.table ≡ d.table
   pub choice : d'.choice ≡ d.choice
-  pub sheet : d'.sheet ≡ d.sheet
 
 -- a table of the rows, or the refusal and the table as it was
 abbrev pub TableOutcome : Desk → (bound clause : ℕ) → Desk → Answer → Type 0
@@ -203,7 +140,6 @@ pub record TableMade (d : Desk) (bound clause : ℕ) (d' : Desk) (a : Answer) : 
   pub rows : vec_items d'.rows ≡ []
   pub irc : d'.irc ≡ d.irc
   pub choice : d'.choice ≡ d.choice
-  pub sheet : d'.sheet ≡ d.sheet
 
 -- the codes that a choice names are there, or which one is not
 abbrev pub There : Desk → Choice → Result Choice Missing → Type 0
@@ -245,48 +181,6 @@ pub record ReadMade (d : Desk) (bytes : List ℕ) (d' : Desk) (a : Answer) : Typ
   pub told : a ≡ answer.BookRead reply
   pub rest : d' ≡ record d { profile = d'.profile }
 
--- the length of a peg's curve, as its answer tells
-abbrev pub LengthTold : Profile → ℕ → Answer → Type 0
-LengthTold p n (answer.Length r) = LengthAnswer (pegs_of p) p.fitted n r
-LengthTold p n _ = ⊥
-
--- the level at a station, as its answer tells
-abbrev pub LevelTold : Profile → ℕ → Answer → Type 0
-LevelTold p s (answer.Level r) = LevelAnswer (pegs_of p) p.fitted s r
-LevelTold p s _ = ⊥
-
--- all but the sheet stays
-abbrev pub OnlySheet : Desk → Desk → Type 0
-OnlySheet d d' = d' ≡ record d { sheet = d'.sheet }
-
--- a sheet is begun in the place of the one before, or that one goes on
-abbrev pub SheetIsBegun : Desk → (first spacing size : ℕ) → Desk → Answer → Type 0
-SheetIsBegun d first spacing size d' (answer.SheetBegun (Ok _)) = IsSomeAnd d'.sheet (λ run. RunningBegun d.profile first spacing size (Ok run)) × OnlySheet d d'
-SheetIsBegun d first spacing size d' (answer.SheetBegun (Err e)) = RunningBegun d.profile first spacing size (Err (Refused e)) × (d' ≡ d)
-SheetIsBegun d first spacing size d' _ = ⊥
-
--- no sheet is running, and nothing is done
-abbrev pub NoSheet : Desk → Desk → Answer → Type 0
-NoSheet d d' a = (a ≡ answer.Missing missing.Sheet) × (d' ≡ d)
-
--- the next row of a running sheet, of the profile as it is now
-abbrev pub RowOn : Desk → Desk → Answer → Running → Type 0
-RowOn d d' (answer.Row r) run = IsSomeAnd d'.sheet (λ run'. RowMade d.profile run.sheet run'.sheet (vec_items run.buffer) (vec_items run'.buffer) r) × OnlySheet d d'
-RowOn d d' _ run = ⊥
-
--- the next row of the sheet, where one is running
-abbrev pub RowAsked : Desk → Desk → Answer → Type 0
-RowAsked d d' a = MatchOption d.sheet (NoSheet d d' a) (RowOn d d' a)
-
--- a running sheet is ended: its rows, and the bytes that were written
-abbrev pub EndedOn : Desk → Desk → Answer → Running → Type 0
-EndedOn d d' (answer.SheetEnded e) run = (e.rows ≡ run.sheet.rows) × (vec_items e.bytes ≡ take run.sheet.place (vec_items run.buffer)) × (d' ≡ record d { sheet = None })
-EndedOn d d' _ run = ⊥
-
--- the sheet is ended, where one is running
-abbrev pub SheetIsEnded : Desk → Desk → Answer → Type 0
-SheetIsEnded d d' a = MatchOption d.sheet (NoSheet d d' a) (EndedOn d d' a)
-
 -- what a call does to the desk, and what it answers
 abbrev pub Made : Desk → Call → Desk → Answer → Type 0
 Made d call.New d' a = Empty d' × (a ≡ answer.Begun)
@@ -294,14 +188,7 @@ Made d (call.Irc f) d' a = IrcMade d f d' a
 Made d (call.Row row) d' a = RowAdded d row d' a
 Made d (call.Table bound clause) d' a = TableMade d bound clause d' a
 Made d (call.Use c) d' a = Chosen d c d' a
-Made d (call.Ask q) d' a = Consulted d (task.Ask q) a × (d' ≡ d)
+Made d (call.Ask q) d' a = Inquired d q a × (d' ≡ d)
 Made d (call.Edit e) d' a = EditMade d e d' a
 Made d (call.Book size) d' a = BookTold d.profile.tables size a × (d' ≡ d)
 Made d (call.Read v) d' a = ReadMade d (vec_items v) d' a
-Made d (call.Fit words) d' a = FitDone d words d' a
-Made d (call.Length n) d' a = LengthTold d.profile n a × (d' ≡ d)
-Made d (call.Level s) d' a = LevelTold d.profile s a × (d' ≡ d)
-Made d (call.Examine v) d' a = Consulted d (task.Examine v) a × (d' ≡ d)
-Made d (call.Begin first spacing size) d' a = SheetIsBegun d first spacing size d' a
-Made d call.Next d' a = RowAsked d d' a
-Made d call.End d' a = SheetIsEnded d d' a

@@ -21,7 +21,6 @@ abbrev pub missing_words : Missing → List ℕ
 missing_words missing.Irc = codes "no IRC code is made yet: make it by irc"
 missing_words missing.Table = codes "no length table is made yet: make it by table"
 missing_words missing.Code = codes "no code is in use yet: name it by use"
-missing_words missing.Sheet = codes "no sheet is begun: begin it by begin"
 
 -- where a peg stands, or that none does
 abbrev pub peg_words : Option Peg → List ℕ

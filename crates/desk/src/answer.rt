@@ -3,21 +3,15 @@ ghost use Rattle.std.specs.Prelude.{Some};
 ghost use Rattle.desk.specs.Words.{missing_words, stands_words};
 
 use crate::call::Choice;
-use crate::running::Ended;
 use book::fault::{BookFault, TooShort};
-use fitting::examine::Broken;
-use fitting::fit::NoFit;
 use pegs::edit::EditRefusal;
 use pegs::peg::{FixedLevel, Peg};
-use profile::refusal::{AskRefusal, ExamineRefusal, FitRefusal, Totals};
 use rules::clause::ClauseNumber;
 use rules::irc::Clause;
 use rules::length::Length;
 use rules::refusal::Refusal;
 use rules::shortest::NoLength;
 use rules::speeds::Asked;
-use sheet::refusal::SheetRefusal;
-use sheet::sheet::Row;
 use std::fmt;
 
 // What a call needs and the job has not made yet.
@@ -26,7 +20,6 @@ pub enum Missing {
     Irc,
     Table,
     Code,
-    Sheet,
 }
 
 impl fmt::Display for Missing {
@@ -37,7 +30,6 @@ impl fmt::Display for Missing {
             Missing::Irc => "no IRC code is made yet: make it by irc",
             Missing::Table => "no length table is made yet: make it by table",
             Missing::Code => "no code is in use yet: name it by use",
-            Missing::Sheet => "no sheet is begun: begin it by begin",
         })
     }
 }
@@ -165,52 +157,6 @@ impl fmt::Display for Demands {
     }
 }
 
-// Why a profile is not fitted, with the peg and the clause that stand against it.
-#[derive(Clone, Copy)]
-struct Unfit(FitRefusal);
-
-impl fmt::Display for Unfit {
-    fn fmt<W: fmt::Write>(&self, f: &mut fmt::Formatter<W>) -> fmt::Result {
-        let refusal = self.0;
-        write!(f, "refused {}", refusal.number())?;
-        match refusal {
-            FitRefusal::NoLengths(NoFit::Grade { peg, clause })
-            | FitRefusal::NoLengths(NoFit::Turn { peg, clause }) => write!(
-                f,
-                " peg {peg} clause {clause}"
-            )?,
-            FitRefusal::NoLengths(NoFit::Closed { peg }) => write!(f, " peg {peg}")?,
-            _ => (),
-        }
-        write!(f, ": {refusal}")
-    }
-}
-
-// Why lengths do not meet every rule, with the peg and the clause, or the fixed level, that stand against them.
-#[derive(Clone, Copy)]
-struct Unmet(ExamineRefusal);
-
-impl fmt::Display for Unmet {
-    fn fmt<W: fmt::Write>(&self, f: &mut fmt::Formatter<W>) -> fmt::Result {
-        let refusal = self.0;
-        write!(f, "refused {}", refusal.number())?;
-        match refusal {
-            ExamineRefusal::Broken(Broken::Curve { peg, clause })
-            | ExamineRefusal::Broken(Broken::Grade { peg, clause }) => write!(
-                f,
-                " peg {peg} clause {clause}"
-            )?,
-            ExamineRefusal::Broken(Broken::Overlap { peg }) => write!(f, " peg {peg}")?,
-            ExamineRefusal::Broken(Broken::FixedLevelLost { number }) => write!(
-                f,
-                " fixed {number}"
-            )?,
-            _ => (),
-        }
-        write!(f, ": {refusal}")
-    }
-}
-
 // The answer to a call: what it did or found, what the layers below made of it, or what stands against it.
 #[derive(Drop)]
 pub enum Answer {
@@ -224,13 +170,6 @@ pub enum Answer {
     Edited(Edited),
     Book(Result<Vec<u8>, TooShort>),
     BookRead(Result<(), BookFault>),
-    Fitted(Result<Totals, FitRefusal>),
-    Examined(Result<(), ExamineRefusal>),
-    Length(Result<u32, AskRefusal>),
-    Level(Result<u32, AskRefusal>),
-    SheetBegun(Result<(), SheetRefusal>),
-    Row(Result<Row, SheetRefusal>),
-    SheetEnded(Ended),
     Refused(Refusal),
     Missing(Missing),
 }
@@ -270,37 +209,6 @@ impl fmt::Display for Answer {
                 fault.number(),
                 fault.place(),
                 fault.layer()
-            ),
-            Answer::Fitted(Ok(Totals { turns, total })) => write!(
-                f,
-                "ok turns {turns} total {total}: the least lengths that meet every rule"
-            ),
-            Answer::Fitted(Err(refusal)) => write!(f, "{}", Unfit(refusal)),
-            Answer::Examined(Ok(())) => f.write_str("ok: the lengths meet every rule"),
-            Answer::Examined(Err(refusal)) => write!(f, "{}", Unmet(refusal)),
-            Answer::Length(Ok(metres)) => write!(f, "ok {metres}: metres of curve"),
-            Answer::Level(Ok(level)) => write!(f, "ok {level}: millimetres"),
-            Answer::Length(Err(refusal)) | Answer::Level(Err(refusal)) => write!(
-                f,
-                "refused {}: {refusal}",
-                refusal.number()
-            ),
-            Answer::SheetBegun(Ok(())) => f.write_str("ok: the sheet is begun"),
-            Answer::Row(Ok(Row { station, level })) => write!(
-                f,
-                "ok {station} {level}: station in metres, level in millimetres"
-            ),
-            Answer::SheetBegun(Err(refusal)) | Answer::Row(Err(refusal)) => write!(
-                f,
-                "refused {}: {refusal}",
-                refusal.number()
-            ),
-            Answer::SheetEnded(ref ended) => write!(
-                f,
-                "ok rows {} bytes {} {}",
-                ended.rows,
-                ended.bytes.len(),
-                Hex(ended.bytes.as_slice())
             ),
             Answer::Refused(refusal) => write!(f, "refused {}: {refusal}", refusal.number()),
             Answer::Missing(missing) => write!(f, "not understood: {missing}"),

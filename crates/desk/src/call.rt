@@ -50,14 +50,6 @@ pub enum Inquiry {
     },
 }
 
-// What a code is needed for: to answer an inquiry, to fit the profile, or to examine lengths.
-#[derive(Drop)]
-pub enum Task {
-    Ask(Inquiry),
-    Fit,
-    Examine(Vec<u32>),
-}
-
 // A call of a job, with its figures as they came in.
 #[derive(Drop)]
 pub enum Call {
@@ -70,11 +62,4 @@ pub enum Call {
     Edit(Edit),
     Book { size: u32 },
     Read(Vec<u8>),
-    Fit { words: u32 },
-    Length { peg: u32 },
-    Level { station: u32 },
-    Examine(Vec<u32>),
-    Begin { first: u32, spacing: u32, size: u32 },
-    Next,
-    End,
 }

@@ -1,13 +1,11 @@
 // What a job has made so far, and the calls on it.
 ghost use Rattle.std.specs.Prelude.{◌≡◌, ℕ, ◌<◌, ◌≤◌, length, min, IfOk, Ok, Err, MatchOption, MatchResult};
-ghost use Rattle.fitting.specs.Rules.{verdicts};
-ghost use Rattle.desk.specs.Desk.{Answers, AsItWas, BookTold, Chosen, Consulted, Done, DoneBy, DoneInUse, EditMade, Empty, FitDone, IrcMade, Made, ReadMade, RowAdded, RowAsked, SheetIsBegun, SheetIsEnded, TableMade, There, ToldBy, stands_of, told_of};
+ghost use Rattle.desk.specs.Desk.{Answers, AsItWas, AskedBy, BookTold, Chosen, EditMade, Empty, Inquired, IrcMade, Made, ReadMade, RowAdded, TableMade, There, ToldBy, stands_of, told_of};
 ghost use Rattle.desk.specs.declared.answer.Answer.TheVariants as answer;
 ghost use Rattle.desk.specs.declared.answer.Missing.TheVariants as missing;
 
 use crate::answer::{Answer, Edited, Missing, Stands, Verdict};
-use crate::call::{Call, Choice, Inquiry, Task};
-use crate::running::{NotBegun, Running};
+use crate::call::{Call, Choice, Inquiry};
 use pegs::edit::Edit;
 use profile::profile::Profile;
 use rules::code::RoadCode;
@@ -31,7 +29,7 @@ pub struct KeptTable {
     clause: u8,
 }
 
-// The profile of a job, its codes, the rows since its last table, which code judges, and the sheet that is written.
+// The profile of a job, its codes, the rows since its last table, and which code judges.
 #[derive(Drop)]
 pub struct Desk {
     profile: Profile,
@@ -39,7 +37,6 @@ pub struct Desk {
     rows: Vec<Row>,
     table: Option<KeptTable>,
     choice: Option<Choice>,
-    sheet: Option<Running>,
 }
 
 // What a code judges of an inquiry, or the first reason against the inquiry's figures.
@@ -72,26 +69,9 @@ fn judge<C: RoadCode>(code: &C, by: Choice, inquiry: Inquiry) -> Result<Answer, 
 
 // What a code answers to an inquiry.
 fn ask<C: RoadCode>(code: &C, by: Choice, inquiry: Inquiry) -> Answer
-    ensures { ToldBy (C.grade_verdict code.now) (C.curve_verdict code.now) by inquiry result }
+    ensures { ToldBy (C.grade_verdict code.now) (C.curve_verdict code.now) by inquiry (Ok result) }
 {
     judge(code, by, inquiry).unwrap_or_else(Answer::Refused)
-}
-
-// The task done by a code; only a fitting moves the profile.
-fn carry_out<C: RoadCode>(
-    code: &C,
-    by: Choice,
-    task: Task,
-    profile: &mut Profile,
-    store: &mut [u32],
-) -> Answer
-    ensures { Done (verdicts C.RoadCode code.now) by task profile.old profile.new store.old store.new result }
-{
-    match task {
-        Task::Ask(inquiry) => ask(code, by, inquiry),
-        Task::Fit => Answer::Fitted(profile.fit(code, store)),
-        Task::Examine(lengths) => Answer::Examined(profile.examine(code, lengths.as_slice())),
-    }
 }
 
 // A profile's book, copied from a buffer of the length that is asked for, or of 795 bytes.
@@ -130,7 +110,6 @@ impl Desk {
             rows: Vec::new(heap),
             table: None,
             choice: None,
-            sheet: None,
         }
     }
 
@@ -149,66 +128,31 @@ impl Desk {
             .ok_or(Missing::Table)
     }
 
-    // The task done by the code that the choice names.
-    fn do_by(
-        &self,
-        choice: Choice,
-        task: Task,
-        profile: &mut Profile,
-        store: &mut [u32],
-    ) -> Result<Answer, Missing>
-        ensures { DoneBy self.now choice task profile.old profile.new store.old store.new result }
+    // The inquiry put to the code that the choice names.
+    fn ask_by(&self, choice: Choice, inquiry: Inquiry) -> Result<Answer, Missing>
+        ensures { AskedBy self.now choice inquiry result }
     {
         match choice {
-            Choice::Irc => Ok(carry_out(&self.irc_made()?, choice, task, profile, store)),
-            Choice::Table => Ok(carry_out(&self.table_made()?, choice, task, profile, store)),
+            Choice::Irc => Ok(ask(&self.irc_made()?, choice, inquiry)),
+            Choice::Table => Ok(ask(&self.table_made()?, choice, inquiry)),
             Choice::IrcThenTable => {
                 let first = self.irc_made()?;
                 let second = self.table_made()?;
-                Ok(carry_out(&Stricter { first, second }, choice, task, profile, store))
+                Ok(ask(&Stricter { first, second }, choice, inquiry))
             }
             Choice::TableThenIrc => {
                 let first = self.table_made()?;
                 let second = self.irc_made()?;
-                Ok(carry_out(&Stricter { first, second }, choice, task, profile, store))
+                Ok(ask(&Stricter { first, second }, choice, inquiry))
             }
         }
     }
 
-    // The task done by the code in use.
-    fn do_in_use(
-        &self,
-        task: Task,
-        profile: &mut Profile,
-        store: &mut [u32],
-    ) -> Result<Answer, Missing>
-        ensures { DoneInUse self.now task profile.old profile.new store.old store.new (told_of answer.Missing result) }
+    fn inquire(&self, inquiry: Inquiry) -> Result<Answer, Missing>
+        ensures { Inquired self.now inquiry (told_of answer.Missing result) }
     {
         let choice = self.choice.ok_or(Missing::Code)?;
-        self.do_by(choice, task, profile, store)
-    }
-
-    // A task that leaves the profile and needs no store.
-    fn consult(&self, task: Task) -> Answer
-        ensures { Consulted self.now task result }
-    {
-        let mut profile = self.profile;
-        self.do_in_use(task, &mut profile, &mut [])
-            .unwrap_or_else(Answer::Missing)
-    }
-
-    // Fits the profile with a store of so many words. No fitting needs more than 16,040, so no more are set aside.
-    // stays: a copy of the profile is fitted and put back, since the code in use is lent by the desk meanwhile
-    fn fit(&mut self, heap: Global, words: u32) -> Result<Answer, AllocError>
-        ensures { MatchResult result (λ a. FitDone self.old words self.new a) (λ _. self.new ≡ self.old) }
-    {
-        let mut store = vec![in heap; 0u32; words.min(16_040) as usize]?;
-        let mut profile = self.profile;
-        let answer = self
-            .do_in_use(Task::Fit, &mut profile, store.as_mut_slice())
-            .unwrap_or_else(Answer::Missing);
-        self.profile = profile;
-        Ok(answer)
+        self.ask_by(choice, inquiry)
     }
 
     fn make_irc(&mut self, figures: RoadFigures) -> Result<Answer, Refusal>
@@ -242,7 +186,7 @@ impl Desk {
     }
 
     // The choice, if the codes that it names are there.
-    // stays: a switch beside that of `do_by`: an enum of the codes in use that is a code itself needs three, one to make it and one for each verdict
+    // stays: a switch beside that of `ask_by`: an enum of the codes in use that is a code itself needs three, one to make it and one for each verdict
     fn there(&self, choice: Choice) -> Result<Choice, Missing>
         ensures { There self.now choice result }
     {
@@ -302,43 +246,7 @@ impl Desk {
         Answer::BookRead(self.profile.read_book(bytes))
     }
 
-    // Begins a sheet in the place of the one before; refused, that one goes on.
-    fn begin(
-        &mut self,
-        heap: Global,
-        first: u32,
-        spacing: u32,
-        size: u32,
-    ) -> Result<Answer, AllocError>
-        ensures { MatchResult result (λ a. SheetIsBegun self.old first spacing size self.new a) (λ _. self.new ≡ self.old) }
-    {
-        match Running::begin(heap, &self.profile, first, spacing, size) {
-            Ok(running) => {
-                self.sheet = Some(running);
-                Ok(Answer::SheetBegun(Ok(())))
-            }
-            Err(NotBegun::Refused(refusal)) => Ok(Answer::SheetBegun(Err(refusal))),
-            Err(NotBegun::Memory(error)) => Err(error),
-        }
-    }
-
-    // The next row of the running sheet.
-    fn next_row(&mut self) -> Result<Answer, Missing>
-        ensures { RowAsked self.old self.new (told_of answer.Missing result) }
-    {
-        let running = self.sheet.as_mut().ok_or(Missing::Sheet)?;
-        Ok(Answer::Row(running.row(&self.profile)))
-    }
-
-    // Ends the running sheet, and tells its rows and bytes.
-    fn end(&mut self) -> Result<Answer, Missing>
-        ensures { SheetIsEnded self.old self.new (told_of answer.Missing result) }
-    {
-        let running = self.sheet.take().ok_or(Missing::Sheet)?;
-        Ok(Answer::SheetEnded(running.end()))
-    }
-
-    // Makes the call. Where memory is wanting, the desk stays as it was.
+    // Makes the call. Where memory for a row is wanting, the desk stays as it was.
     pub fn make(&mut self, heap: Global, call: Call) -> Result<Answer, AllocError>
         ensures { MatchResult result (λ a. Made self.old call self.new a) (λ _. AsItWas self.old self.new) }
     {
@@ -354,21 +262,10 @@ impl Desk {
                     .unwrap_or_else(Answer::Refused),
             ),
             Call::Use(choice) => Ok(self.choose(choice).unwrap_or_else(Answer::Missing)),
-            Call::Ask(inquiry) => Ok(self.consult(Task::Ask(inquiry))),
+            Call::Ask(inquiry) => Ok(self.inquire(inquiry).unwrap_or_else(Answer::Missing)),
             Call::Edit(edit) => Ok(self.edit(edit)),
             Call::Book { size } => self.book(heap, size),
             Call::Read(bytes) => Ok(self.read(bytes.as_slice())),
-            Call::Fit { words } => self.fit(heap, words),
-            Call::Length { peg } => Ok(Answer::Length(self.profile.length(peg))),
-            Call::Level { station } => Ok(Answer::Level(self.profile.level(station))),
-            Call::Examine(lengths) => Ok(self.consult(Task::Examine(lengths))),
-            Call::Begin {
-                first,
-                spacing,
-                size,
-            } => self.begin(heap, first, spacing, size),
-            Call::Next => Ok(self.next_row().unwrap_or_else(Answer::Missing)),
-            Call::End => Ok(self.end().unwrap_or_else(Answer::Missing)),
         }
     }
 }

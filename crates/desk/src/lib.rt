@@ -4,4 +4,3 @@
 pub mod answer;
 pub mod call;
 pub mod desk;
-pub mod running;

@@ -1,4 +1,1 @@
-pub mod Figures
-pub mod Names
 pub mod Runner
-pub mod Words

@@ -1,47 +1,23 @@
-// The words of a line, and the figures and bytes among them.
-ghost use Rattle.std.specs.Prelude.{map, IfOk};
-ghost use Rattle.job.specs.Figures.{Figure, Figures};
-ghost use Rattle.job.specs.Words.{BeforeComment, LineWords, Words};
-
+// The words of a line, and the figures among them.
 use crate::reply::Misread;
 use std::alloc::{AllocError, Global};
 
-// What stands before a '#'.
-fn before_comment(line: &str) -> &str
-    ensures { BeforeComment line.now result.now }
-{
-    line.split_once('#').map_or(line, |(front, _)| front)
-}
-
-// The words of a text, cut at white space.
-#[tactic(auto, using(crate::proofs::Cutting::drained))]
-fn cut(heap: Global, text: &str) -> Result<Vec<&str>, AllocError>
-    ensures { IfOk result (λ v. Words text.now (map (λ x. x.now) v.items)) }
-{
-    text.split_whitespace().collect(heap)
-}
-
-// The words of a line, up to a '#'.
-pub fn words_of(heap: Global, line: &str) -> Result<Vec<&str>, AllocError>
-    ensures { IfOk result (λ v. LineWords line.now (map (λ x. x.now) v.items)) }
-{
-    cut(heap, before_comment(line))
+// What stands before a '#', cut at blanks.
+pub fn words_of(heap: Global, line: &str) -> Result<Vec<&str>, AllocError> {
+    let text = line.split_once('#').map_or(line, |(front, _)| front);
+    text.split_ascii_whitespace().collect(heap)
 }
 
 // A figure is written in digits alone.
-pub fn figure(word: &str) -> Result<u32, Misread<'_>>
-    ensures { IfOk result (λ n. Figure word.now n) }
-{
-    if word.starts_with('+') {
+pub fn figure(word: &str) -> Result<u32, Misread<'_>> {
+    if !word.bytes().all(|b| b.is_ascii_digit()) {
         return Err(Misread::NoFigure(word));
     }
     word.parse().map_err(|_| Misread::NoFigure(word))
 }
 
 // The figures of a call that takes N of them.
-pub fn figures<'a, const N: usize>(words: &[&'a str]) -> Result<[u32; N], Misread<'a>>
-    ensures { IfOk result (λ ns. Figures words.now ns) }
-{
+pub fn figures<'a, const N: usize>(words: &[&'a str]) -> Result<[u32; N], Misread<'a>> {
     if words.len() != N {
         return Err(Misread::Count {
             wanted: N,
@@ -49,8 +25,8 @@ pub fn figures<'a, const N: usize>(words: &[&'a str]) -> Result<[u32; N], Misrea
         });
     }
     let mut read = [0; N];
-    for (i, word) in words.iter().enumerate() {
-        read[i] = figure(word)?;
+    for (place, word) in read.iter_mut().zip(words) {
+        *place = figure(word)?;
     }
     Ok(read)
 }

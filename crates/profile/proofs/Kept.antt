@@ -1,6 +1,5 @@
 -- An edit keeps what holds of every slot. Assumes nothing.
-use Rattle.std.proofs.Common.{◌≡◌, ℕ, zero, suc, ◌^◌, ◌<◌, ◌≤◌, true, false, List, [], ◌∷◌, length, get_or, set, replicate, is_some, Some, None, Ok, Err, Option, Result, sym, refl, ◌∙◌, subst, arith, length-set}
-use Rattle.fitting.specs.declared.fitted.Fitted.{Fitted}
+use Rattle.std.proofs.Common.{◌≡◌, ℕ, zero, suc, ◌^◌, ◌<◌, ◌≤◌, false, List, [], ◌∷◌, length, get_or, set, replicate, is_some, Some, None, Ok, Err, Option, Result, sym, refl, ◌∙◌, subst, arith, length-set}
 use Rattle.pegs.specs.Edits.{WellFormed}
 use Rattle.pegs.specs.Slots.{untouched}
 use Rattle.pegs.specs.Tables.{Edited, fixed_slot, no_tables, peg_slot, written}
@@ -12,7 +11,7 @@ use Rattle.pegs.specs.declared.peg.Peg.{Peg}
 use Rattle.pegs.specs.declared.slot.Slot.{Slot}
 use Rattle.pegs.specs.declared.tables.Tables.{Tables}
 use Rattle.profile.specs.declared.profile.Profile.{Profile}
-use Rattle.profile.specs.Sound.{FixedFine, FixedFit, FixedUntouched, PegsFine, PegsFit, PegsUntouched, fits_here}
+use Rattle.profile.specs.Sound.{FixedFine, FixedFit, FixedUntouched, PegsFine, PegsFit, PegsUntouched}
 
 -- what holds of every slot of a table, and of the one that is written, holds after the writing
 pub kept_by_set : {V : Type 0} (P : Slot V → Type 0) (slots : List (Slot V)) (m : ℕ) (s : Slot V)
@@ -107,7 +106,7 @@ sound_of p = record {
 }
 
 -- the same fact by fact, as a profile keeps them
-pub parts : (t : Tables) (fitted : Option Fitted) → TablesSound t → fits_here t fitted ≡ true
+pub parts : (t : Tables) → TablesSound t
     → record {
       forty : length t.pegs ≡ 40;
       sixteen : length t.fixed ≡ 16;
@@ -117,9 +116,8 @@ pub parts : (t : Tables) (fitted : Option Fitted) → TablesSound t → fits_her
       fixed_fit : FixedFit t;
       pegs_untouched : PegsUntouched t;
       fixed_untouched : FixedUntouched t;
-      fitted_here : fits_here t fitted ≡ true;
     }
-parts t fitted s here = record {
+parts t s = record {
   forty = s.forty;
   sixteen = s.sixteen;
   pegs_fine = λ n. (s.pegs n).fine;
@@ -128,7 +126,6 @@ parts t fitted s here = record {
   fixed_fit = λ n. (s.fixed n).fit;
   pegs_untouched = λ n. (s.pegs n).untouched_empty;
   fixed_untouched = λ n. (s.fixed n).untouched_empty;
-  fitted_here = here;
 }
 
 -- an option without a value

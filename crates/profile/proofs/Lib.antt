@@ -5,6 +5,3 @@ pub mod Kept
 pub mod Runs
 pub mod Standing
 pub mod Whole
-pub mod Promised
-pub mod SameLine
-pub mod Fits

@@ -1,16 +1,12 @@
 -- Every history leaves a profile as its edits said. Assumes nothing.
-use Rattle.std.proofs.Common.{◌≡◌, ℕ, List, [], ◌∷◌, ◌++◌, Ok, Err, Result, sym, refl, ap, ◌∙◌, subst, inl, inr, ⊎_elim, append_assoc, append-nil}
+use Rattle.std.proofs.Common.{◌≡◌, ℕ, List, [], ◌∷◌, ◌++◌, Ok, Err, sym, refl, ap, ◌∙◌, subst, inl, inr, ⊎_elim, append_assoc, append-nil}
 use Rattle.std.proofs.ByRecursion.{All-push}
 use Rattle.pegs.specs.Tables.{fixed_slot, peg_slot}
 use Rattle.pegs.specs.declared.edit.Edit.{Edit}
 use Rattle.pegs.specs.declared.tables.Tables.{Tables}
 use Rattle.profile.specs.declared.profile.Profile.{Profile}
-use Rattle.fitting.specs.Rules.{Verdicts}
-use Rattle.profile.specs.declared.refusal.FitRefusal.{FitRefusal}
-use Rattle.profile.specs.declared.refusal.Totals.{Totals}
 use Rattle.profile.specs.Entries.{entries}
-use Rattle.profile.specs.Fitting.{FitMade}
-use Rattle.profile.specs.History.{Answers, Event, Run, begins, edited, fitted, goes, read}
+use Rattle.profile.specs.History.{Answers, Event, Run, begins, edited, goes, read}
 use Rattle.profile.specs.Law.{OfFixed, OfPeg, Since, StandsAsEdited, TookBook, edits, fixed_said, peg_said}
 use Rattle.profile.specs.Reading.{IsBook}
 use Rattle.profile.proofs.Kept.{sound_of}
@@ -21,7 +17,6 @@ edits_append : (h k : List Event) → edits (h ++ k) ≡ edits h ++ edits k
 edits_append [] k = refl
 edits_append (edited e r ∷ h) k = ap (λ l. e ∷ l) (edits_append h k)
 edits_append (read bytes r ∷ h) k = edits_append h k
-edits_append (fitted c before after r ∷ h) k = edits_append h k
 
 -- a call that is no accepted book adds its edits to those that count
 more : (h : List Event) (log : List Edit) (e : Event) → (TookBook e → ⊥) → Since h log → Since (h ++ (e ∷ [])) (log ++ edits (e ∷ []))
@@ -52,11 +47,6 @@ pub record SoFar (h : List Event) (t : Tables) : Type 0 where
   pub since : Since h log
   pub state : State log t
 
--- a fitting, taken or refused, leaves the tables
-fit_tables : (c : Verdicts) (before after : List ℕ) (b a : Profile) (r : Result Totals FitRefusal) → FitMade c before after b a r → a.tables ≡ b.tables
-fit_tables c before after b a (Ok t) w = w.tables
-fit_tables c before after b a (Err e) w = w.1.tables
-
 step : (h : List Event) (e : Event) (b a : Profile) → Answers e b a → SoFar h b.tables → SoFar (h ++ (e ∷ [])) a.tables
 step h (edited e (Ok u)) b a w s = record {
   log = s.log ++ (e ∷ []);
@@ -73,11 +63,6 @@ step h (read bytes (Err x)) b a w s = record {
   log = s.log;
   since = subst (Since (h ++ (read bytes (Err x) ∷ []))) (append-nil s.log) (more h s.log (read bytes (Err x)) (λ x. x) s.since);
   state = subst (State s.log) (sym w.1.tables) s.state;
-}
-step h (fitted c before after r) b a w s = record {
-  log = s.log;
-  since = subst (Since (h ++ (fitted c before after r ∷ []))) (append-nil s.log) (more h s.log (fitted c before after r) (λ x. x) s.since);
-  state = subst (State s.log) (sym (fit_tables c before after b a r w)) s.state;
 }
 
 pub so_far : {h : List Event} {p : Profile} → Run h p → SoFar h p.tables

@@ -10,7 +10,7 @@ use Rattle.pegs.specs.declared.peg.Peg.{Peg}
 use Rattle.pegs.specs.declared.tables.Tables.{Tables}
 use Rattle.profile.specs.declared.profile.Profile.{Profile}
 use Rattle.profile.specs.Entries.{entries}
-use Rattle.profile.specs.History.{Event, Run, edited, fitted, read}
+use Rattle.profile.specs.History.{Event, Run, edited, read}
 use Rattle.profile.specs.Reading.{IsBook}
 
 -- the call was a book, and it was accepted
@@ -18,7 +18,6 @@ abbrev pub TookBook : Event → Type 0
 TookBook (edited e r) = ⊥
 TookBook (read bytes (Ok u)) = Unit {0}
 TookBook (read bytes (Err x)) = ⊥
-TookBook (fitted c before after r) = ⊥
 
 -- no book was accepted
 abbrev pub Bookless : List Event → Type 0
@@ -29,7 +28,6 @@ abbrev pub edits : List Event → List Edit
 edits [] = []
 edits (edited e r ∷ h) = e ∷ edits h
 edits (read bytes r ∷ h) = edits h
-edits (fitted c before after r ∷ h) = edits h
 
 -- a history cut at its last accepted book: that book's entries first, then the edits after it
 pub record LastBook (h : List Event) (log : List Edit) : Type 0 where

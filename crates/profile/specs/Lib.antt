@@ -4,6 +4,3 @@ pub mod Law
 pub mod Reading
 pub mod Sound
 pub mod Steps
-pub mod Fitting
-pub mod Numbers
-pub mod Promise

@@ -1,8 +1,5 @@
 -- What holds of every slot of a profile. Assumes nothing.
-use Rattle.std.specs.Prelude.{◌≡◌, ℕ, ◌^◌, ◌<◌, ◌≤◌, Bool, true, false, ◌&&◌, List, [], ◌∷◌, take, is_some, Some, None, Option, ◌==◌}
-use Rattle.fitting.specs.Ready.{in_force}
-use Rattle.fitting.specs.declared.alignment.Standing.{Standing}
-use Rattle.fitting.specs.declared.fitted.Fitted.{Fitted}
+use Rattle.std.specs.Prelude.{◌≡◌, ℕ, ◌^◌, ◌<◌, ◌≤◌, false, is_some, Some}
 use Rattle.pegs.specs.Tables.{fixed_slot, peg_slot}
 use Rattle.pegs.specs.declared.peg.FixedLevel.{FixedLevel}
 use Rattle.pegs.specs.declared.peg.Peg.{Peg}
@@ -29,23 +26,3 @@ PegsUntouched t = (n : ℕ) → (peg_slot t n).last ≡ 0 → is_some (peg_slot 
 
 abbrev pub FixedUntouched : Tables → Type 0
 FixedUntouched t = (n : ℕ) → (fixed_slot t n).last ≡ 0 → is_some (fixed_slot t n).held ≡ false
-
--- the pegs that a fitting was made for, in order
-abbrev pub line_of : Fitted → List Standing
-line_of f = take f.alignment.count f.alignment.pegs
-
--- the lengths of a fitting, in the order of its pegs
-abbrev pub lengths_of : Fitted → List ℕ
-lengths_of f = take f.alignment.count f.lengths
-
--- whether two lines have the same pegs, figure by figure
-abbrev pub same_line : List Standing → List Standing → Bool
-same_line [] [] = true
-same_line [] (q ∷ qs) = false
-same_line (p ∷ ps) [] = false
-same_line (p ∷ ps) (q ∷ qs) = p.number == q.number && (p.point.station == q.point.station && (p.point.level == q.point.level && same_line ps qs))
-
--- what a profile is fitted with are lengths of its pegs in force
-abbrev pub fits_here : Tables → Option Fitted → Bool
-fits_here t None = true
-fits_here t (Some f) = same_line (line_of f) (in_force t.pegs)

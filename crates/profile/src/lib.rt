@@ -1,5 +1,4 @@
-// A profile: pegs and fixed levels as its edits and books left them, and the lengths that fit them.
+// A profile: pegs and fixed levels as its edits and books left them.
 #![tactic(auto)]
 
 pub mod profile;
-pub mod refusal;

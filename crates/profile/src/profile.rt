@@ -1,18 +1,25 @@
 // The public profile, with what every caller may rely on.
-ghost use Rattle.std.specs.Prelude.{◌≡◌, true, length};
-ghost use Rattle.profile.specs.Sound.{FixedFine, FixedFit, FixedUntouched, PegsFine, PegsFit, PegsUntouched, fits_here};
+ghost use Rattle.std.specs.Prelude.{◌≡◌, length};
+ghost use Rattle.profile.specs.Sound.{FixedFine, FixedFit, FixedUntouched, PegsFine, PegsFit, PegsUntouched};
 
-use fitting::fitted::Fitted;
 use pegs::tables::Tables;
 
 pub mod calls;
 
-// The tables, how often a fitting was accepted, and the lengths of the last while it is fitted.
+// Curve lengths in metres by peg number, and their total.
+// stays: an array beside the pegs' slots, since a profile never needs memory, and a book writes whole slots and knows no lengths
+#[derive(Clone, Copy)]
+pub struct Lengths {
+    pub by_peg: [u32; 40],
+    pub total: u32,
+}
+
+// The tables, how often a fitting was accepted, and the lengths while it is fitted.
 #[derive(Clone, Copy)]
 pub struct Profile {
     tables: Tables,
     fittings: u32,
-    fitted: Option<Fitted>,
+    fitted: Option<Lengths>,
     ghost forty: { length tables.pegs ≡ 40 },
     ghost sixteen: { length tables.fixed ≡ 16 },
     ghost pegs_fine: { PegsFine tables },
@@ -21,5 +28,4 @@ pub struct Profile {
     ghost fixed_fit: { FixedFit tables },
     ghost pegs_untouched: { PegsUntouched tables },
     ghost fixed_untouched: { FixedUntouched tables },
-    ghost fitted_here: { fits_here tables fitted ≡ true },
 }
