@@ -9,11 +9,17 @@ use std::fs::File;
 use std::io::{BufRead, BufReader};
 
 // Each line that is a call gets its number and its answer.
-fn answer_all<I: BufRead + Drop>(rt: &HostRuntime, input: I) -> anyhow::Result<()> {
+// stays: every line is read into the room of the one before; `split` makes a vector for each line, which took half as long again on a job of blank lines
+fn answer_all<I: BufRead + Drop>(rt: &HostRuntime, mut input: I) -> anyhow::Result<()> {
     let heap = rt.alloc();
     let mut desk = Desk::new(heap);
-    for (number, line) in (1..u64::MAX).zip(input.split(heap, b'\n')) {
-        if let Some(reply) = answer_line(heap, &mut desk, line?.as_slice())? {
+    let mut line = Vec::new(heap);
+    for number in 1..u64::MAX {
+        line.clear();
+        if input.read_until(b'\n', &mut line)? == 0 {
+            break;
+        }
+        if let Some(reply) = answer_line(heap, &mut desk, line.as_slice())? {
             println!(rt; "{number}: {reply}")?;
         }
     }
