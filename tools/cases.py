@@ -360,6 +360,19 @@ def books():
     say('place 7 301 1 1', 'ok: peg 7 stands at station 1, level 1')
     say('read 010000', 'ok')
     say('lift 7 1', 'ok: peg 7 is absent')
+    # the longest book: every slot in force, every number as long as it can be
+    full = [1, 40] + [f for n in range(40) for f in (n, 4294967295, 1, 10_000, 9_000_000 - n)]
+    full += [16] + [f for n in range(16) for f in (n, 4294967295, 1, 10_000, 8_000_000 + n, 9_000_000)]
+    longest = b''.join(map(number, full))
+    offer(longest)
+    # one wrong digit in it, first, last and beside where a piece of digits ends; and a digit too few
+    digits = longest.hex()
+    for k in (0, 1, 127, 128, 129, 255, 256, len(digits) - 1):
+        say(f'read {digits[:k]}g{digits[k + 1:]}', 'not understood')
+    say(f'read {digits[:-1]}', 'not understood')
+    say('book', f'ok {len(whole)} {whole.hex()}')
+    say(f'read {digits}', 'ok')
+    say('book', f'ok {len(longest)} {digits}')
 
 
 def edits():

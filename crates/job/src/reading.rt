@@ -120,15 +120,28 @@ fn read_size<'a>(rest: &[&'a str]) -> Result<u32, Misread<'a>> {
     Ok(size)
 }
 
+// The bytes that a word writes in hexadecimal, in room that is asked for as the digits before it were right.
+fn decode<'a>(heap: Global, word: &'a str) -> Result<Vec<u8>, Unread<'a>> {
+    if word.len() % 2 != 0 {
+        return Err(Unread::Misread(Misread::NoBytes(word)));
+    }
+    let mut bytes = Vec::new(heap);
+    let mut room = [0u8; 64];
+    for digits in word.as_bytes().chunks(128) {
+        let piece = &mut room[..digits.len() / 2];
+        hex::decode_to_slice(digits, piece).map_err(|_| Misread::NoBytes(word))?;
+        bytes.extend_from_slice(piece)?;
+    }
+    Ok(bytes)
+}
+
 // A book to read, as one word of hexadecimal.
 fn read_bytes<'a>(heap: Global, rest: &[&'a str]) -> Result<Vec<u8>, Unread<'a>> {
     let [word] = rest else {
         let given = rest.len();
         return Err(Unread::Misread(Misread::Count { wanted: 1, given }));
     };
-    let mut bytes = vec![in heap; 0u8; word.len() / 2]?;
-    hex::decode_to_slice(*word, bytes.as_mut_slice()).map_err(|_| Misread::NoBytes(word))?;
-    Ok(bytes)
+    decode(heap, word)
 }
 
 // The call that the words make: its name, then its figures.
