@@ -143,6 +143,10 @@ byte_at bs at m r k h =
 set_put : (xs : List ℕ) (i b : ℕ) → i < length xs → set xs i b ≡ put xs i (b ∷ [])
 set_put xs i b h = set_split xs i b h ∙ rw add-one refl
 
+-- some byte is always written
+pub some : (f n : ℕ) → 1 ≤ length (groups (suc f) n)
+some f n = ⊎_elim (λ h. rw (one f n h) (omega arith)) (λ h. rw (more f n h) (omega arith)) (cases_lt n 128)
+
 -- the groups of what is left lead to the whole number
 pub record Going (start : List ℕ) (n : ℕ) (out : List ℕ) (end left : ℕ) : Type 0 where
   pub more : ℕ
@@ -153,12 +157,8 @@ pub begin : (start : List ℕ) (n : ℕ) → n < 2 ^ 32 → Going start n start 
 begin start n h = record { more = 4; small = omega arith; leads = Writes.begin start (number n) }
 
 module _ {start : List ℕ} {n : ℕ} {out : List ℕ} {end left : ℕ} (g : Going start n out end left) (fits : length (number n) ≤ length out) where
-  -- some byte is always written
-  some : (f : ℕ) → 1 ≤ length (groups (suc f) left)
-  some f = ⊎_elim (λ h. rw (one f left h) (omega arith)) (λ h. rw (more f left h) (omega arith)) (cases_lt left 128)
-
   pub inside : end < length out
-  inside = omega (arith, some g.more, g.leads.end)
+  inside = omega (arith, some g.more left, g.leads.end)
 
   step_at : (f : ℕ) → left < 2 ^ (7 * suc f) → Leads start (number n) out end (groups (suc f) left) → 128 ≤ left → Going start n (set out end (128 + left % 128)) (end + 1) (left / 128)
   step_at zero h l b = absurd (omega arith)
