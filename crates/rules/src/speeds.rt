@@ -32,7 +32,7 @@ pub struct Asked {
 use DesignSpeed::{Kmh20, Kmh25, Kmh30, Kmh35, Kmh40, Kmh50, Kmh65, Kmh80, Kmh100};
 
 // Ruling and minimum speed, by class and terrain.
-const SPEEDS: [[(DesignSpeed, DesignSpeed); 4]; 4] = [
+static SPEEDS: [[(DesignSpeed, DesignSpeed); 4]; 4] = [
     [
         (Kmh100, Kmh80),
         (Kmh80, Kmh65),
@@ -60,7 +60,7 @@ const SPEEDS: [[(DesignSpeed, DesignSpeed); 4]; 4] = [
 ];
 
 // By design speed, slowest first.
-const ASKED: [Asked; 9] = [
+static ASKED: [Asked; 9] = [
     Asked {
         kmh: 20,
         stopping: 20,
