@@ -120,7 +120,7 @@ fn read_size<'a>(rest: &[&'a str]) -> Result<u32, Misread<'a>> {
     Ok(size)
 }
 
-// The bytes that a word writes in hexadecimal, in room that is asked for as the digits before it were right.
+// The bytes that a word writes in hexadecimal; room for each piece is asked for once its digits are known to be right.
 fn decode<'a>(heap: Global, word: &'a str) -> Result<Vec<u8>, Unread<'a>> {
     if word.len() % 2 != 0 {
         return Err(Unread::Misread(Misread::NoBytes(word)));
